@@ -1,0 +1,72 @@
+// The registry: a search of its entries.
+use crate::eager::both;
+use crate::eager::either;
+use crate::layout::entry_count;
+use crate::layout::entry_size;
+use crate::Header;
+use crate::Wanted;
+use words::Order;
+ghost use mathlib.Core.Path.{_≡_};
+ghost use mathlib.Core.Bool.{_&&_};
+ghost use Prim.Native.Nat.{_<_, _^_};
+ghost use lib.Dec.{eqb};
+ghost use Rattle.rows.specs.Lowest.{lowest};
+ghost use Rattle.dump.specs.Layout.{entryCount};
+ghost use Rattle.dump.specs.Registry.{isInUse, isAllowedType, pointerAt, isWantedAt, isWanted};
+
+fn in_use(dump: &[u8], at: usize) -> bool
+    ensures { λ r. ⌜ r ≡ isInUse (now (dump .entry)) at ⌝ }
+{
+    words::byte(dump, at, 0) != 1
+}
+
+// Whether an object may have this type.
+pub fn allowed_type(t: u8) -> bool
+    ensures { λ r. ⌜ r ≡ isAllowedType t ⌝ }
+{
+    either(both(1 <= t, t <= 14), both(21 <= t, t <= 28))
+}
+
+fn has_pointer(dump: &[u8], at: usize, order: Order, pointer: u32) -> bool
+    requires { ⌜ at < 2 ^ 40 ⌝ }
+    ensures { λ r. ⌜ r ≡ eqb (pointerAt order (now (dump .entry)) at) pointer ⌝ }
+{
+    words::word(dump, at + 4, order) == pointer
+}
+
+fn is_wanted(dump: &[u8], at: usize, order: Order, wanted: Wanted) -> bool
+    requires { ⌜ at < 2 ^ 40 ⌝ }
+    ensures { λ r. ⌜ r ≡ isWantedAt wanted order (now (dump .entry)) at ⌝ }
+{
+    let used = in_use(dump, at);
+    let t = words::byte(dump, at, 1);
+    match wanted {
+        Wanted::BadType => both(used, !allowed_type(t)),
+        Wanted::Free => !used,
+        Wanted::InUse(pointer) => both(used, has_pointer(dump, at, order, pointer)),
+        Wanted::Thread(pointer) => {
+            both(both(used, t == 1), has_pointer(dump, at, order, pointer))
+        }
+    }
+}
+
+// The lowest entry that is wanted, or the number of entries where there is none.
+pub fn lowest_entry(dump: &[u8], h: Header, wanted: Wanted) -> usize
+    ensures { λ r. ⌜ r ≡ lowest (isWanted wanted (now (dump .entry)) h) (entryCount h) ⌝ }
+{
+    let entries = entry_count(h);
+    let size = entry_size(h);
+    let order = h.order;
+    let mut i = 0;
+    let mut at = 48;
+    loop {
+        if i == entries {
+            break entries;
+        }
+        if is_wanted(dump, at, order, wanted) {
+            break i;
+        }
+        i += 1;
+        at += size;
+    }
+}

@@ -1,0 +1,38 @@
+-- Rows one after another give the first that is broken.
+use mathlib.Core.Bool.{Bool, true, false, cond}
+use mathlib.Core.List.{List, [], _∷_, _++_}
+use mathlib.Core.Path.{_≡_, refl, sym, _∙_}
+use Rattle.rows.specs.Rows.{Row, refusal, firstBroken, afterRow, afterRows}
+use Rattle.rows.specs.declared.Refusal.{Refusal}
+use Rattle.rows.specs.declared.Verdict.{Verdict}
+use Rattle.rows.specs.declared.Verdict.the-variants.{Passed, Refused}
+
+-- an earlier refusal stays
+pub refused-stays : (f : Refusal) (rs : List Row) → afterRows (Refused f) rs ≡ Refused f
+unfolding afterRow
+refused-stays f [] = refl
+refused-stays f (r ∷ rs) = refused-stays f rs
+
+chosen : (b : Bool) (f : Refusal) (more : List Row) (v w : Verdict) → afterRows v more ≡ w → afterRows (cond b (Refused f) v) more ≡ cond b (Refused f) w
+chosen true f more v w e = refused-stays f more
+chosen false f more v w e = e
+
+-- rows in order, and then further rows, are all of them in order
+pub in-order : (rs more : List Row) → afterRows (firstBroken rs) more ≡ firstBroken (rs ++ more)
+unfolding firstBroken afterRow
+in-order [] [] = refl
+in-order [] (r ∷ more) = chosen (r .broken) (refusal r) more _ _ (in-order [] more)
+in-order (r ∷ rs) more = chosen (r .broken) (refusal r) more _ _ (in-order rs more)
+
+-- rows in order, from the start
+pub from-start : (rs : List Row) → afterRows Passed rs ≡ firstBroken rs
+unfolding firstBroken
+from-start rs = in-order [] rs
+
+-- further rows change no refusal, and decide where the rows before them have passed
+module _ (rs more : List Row) where
+  pub then-refused : (f : Refusal) → firstBroken rs ≡ Refused f → Refused f ≡ firstBroken (rs ++ more)
+  then-refused f e = sym (refused-stays f more) ∙ rw e at (in-order rs more)
+
+  pub then-more : firstBroken rs ≡ Passed → afterRows Passed more ≡ firstBroken (rs ++ more)
+  then-more e = rw e at (in-order rs more)

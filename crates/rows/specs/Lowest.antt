@@ -1,0 +1,13 @@
+-- Searching and counting by a test on indices.
+use Prim.Native.Nat.{ℕ, zero, suc, _+_}
+use mathlib.Core.Bool.{Bool, cond}
+
+-- the lowest index below n that passes the test, or n where none does
+unfoldable pub lowest : (ℕ → Bool) → ℕ → ℕ
+lowest t zero = 0
+lowest t (suc n) = cond (t 0) 0 (suc (lowest (λ k. t (suc k)) n))
+
+-- how many indices below n pass the test
+unfoldable pub count : (ℕ → Bool) → ℕ → ℕ
+count t zero = 0
+count t (suc n) = count t n + cond (t n) 1 0

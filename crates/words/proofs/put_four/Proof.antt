@@ -1,0 +1,34 @@
+-- `words::put_four` meets its contract: the bytes are stored one after another.
+use Rattle.words.proofs.Places.{store-four}
+use borrow.Author.Needs.{needs}
+use Rattle.words.proofs.put_four.Statement.{statement}
+use Rattle.words.proofs.put_four.Tie as tie
+
+put-byte-requires : tie.Need-put-byte-requires
+put-byte-requires c κs = search needs
+
+put-byte-requires-2 : tie.Need-put-byte-requires-2
+put-byte-requires-2 c κs = search needs
+
+put-byte-requires-3 : tie.Need-put-byte-requires-3
+put-byte-requires-3 c κs = search needs
+
+put-byte-requires-4 : tie.Need-put-byte-requires-4
+put-byte-requires-4 c κs = search needs
+
+same-length : tie.Need-same-length
+same-length c = search needs
+
+returns : tie.Need-returns
+returns c = rw store-four (cc)
+
+pub put-four-spec : {M : Type 1} → statement M
+put-four-spec =
+    tie.close
+    (tie.spec
+    put-byte-requires
+    put-byte-requires-2
+    put-byte-requires-3
+    put-byte-requires-4
+    same-length
+    returns)

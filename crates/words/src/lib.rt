@@ -1,0 +1,145 @@
+// Numbers of 16 and 32 bits in bytes of either order, offsets, and the width of a mask.
+// Nothing here can fail: a byte past the end reads as 0, and is not stored.
+ghost use mathlib.Core.Path.{_≡_};
+ghost use Prim.Native.Nat.{_+_, _%_};
+ghost use lib.ListN.{getD, set};
+ghost use mathlib.Core.List.{List, [], _∷_};
+ghost use lib.Seq.{sets};
+ghost use Rattle.words.specs.Words.{joined, lowestFirst, halfAt, wordAt, putHalf, putWord};
+ghost use Rattle.words.specs.Offsets.{offset};
+ghost use Rattle.words.specs.Masks.{width};
+
+pub enum Order {
+    Big,
+    Little,
+}
+
+// The byte k places after a place.
+pub fn byte(bytes: &[u8], at: usize, k: usize) -> u8
+    ensures { λ r. ⌜ r ≡ getD (now (bytes .entry)) (at + k) 0 ⌝ }
+{
+    if bytes.len() <= at {
+        return 0;
+    }
+    if bytes.len() - at <= k {
+        return 0;
+    }
+    bytes[at + k]
+}
+
+fn low(v: u32) -> u8
+    ensures { λ r. ⌜ r ≡ v % 256 ⌝ }
+{
+    (v % 256) as u8
+}
+
+fn two(order: Order, a: u8, b: u8) -> u16
+    ensures { λ r. ⌜ r ≡ joined (lowestFirst order (a ∷ b ∷ [])) ⌝ }
+{
+    match order {
+        Order::Big => (b as u16) + 256 * (a as u16),
+        Order::Little => (a as u16) + 256 * (b as u16),
+    }
+}
+
+fn four(order: Order, a: u8, b: u8, c: u8, d: u8) -> u32
+    ensures { λ r. ⌜ r ≡ joined (lowestFirst order (a ∷ b ∷ c ∷ d ∷ [])) ⌝ }
+{
+    match order {
+        Order::Big => (d as u32) + 256 * ((c as u32) + 256 * ((b as u32) + 256 * (a as u32))),
+        Order::Little => (a as u32) + 256 * ((b as u32) + 256 * ((c as u32) + 256 * (d as u32))),
+    }
+}
+
+// The 16-bit number at a place.
+pub fn half(bytes: &[u8], at: usize, order: Order) -> u16
+    ensures { λ r. ⌜ r ≡ halfAt order (now (bytes .entry)) at ⌝ }
+{
+    two(order, byte(bytes, at, 0), byte(bytes, at, 1))
+}
+
+// The 32-bit number at a place.
+pub fn word(bytes: &[u8], at: usize, order: Order) -> u32
+    ensures { λ r. ⌜ r ≡ wordAt order (now (bytes .entry)) at ⌝ }
+{
+    four(
+        order,
+        byte(bytes, at, 0),
+        byte(bytes, at, 1),
+        byte(bytes, at, 2),
+        byte(bytes, at, 3),
+    )
+}
+
+// Stores a byte k places after a place.
+pub fn put_byte(bytes: &mut [u8], at: usize, k: usize, b: u8)
+    ensures { λ _. ⌜ now (bytes .exit) ≡ set (now (bytes .entry)) (at + k) b ⌝ }
+{
+    if bytes.len() <= at {
+        return;
+    }
+    if bytes.len() - at <= k {
+        return;
+    }
+    bytes[at + k] = b;
+}
+
+fn put_two(bytes: &mut [u8], at: usize, a: u8, b: u8)
+    ensures { λ _. ⌜ now (bytes .exit) ≡ sets (now (bytes .entry)) at (a ∷ b ∷ []) ⌝ }
+{
+    put_byte(bytes, at, 0, a);
+    put_byte(bytes, at, 1, b);
+}
+
+fn put_four(bytes: &mut [u8], at: usize, a: u8, b: u8, c: u8, d: u8)
+    ensures { λ _. ⌜ now (bytes .exit) ≡ sets (now (bytes .entry)) at (a ∷ b ∷ c ∷ d ∷ []) ⌝ }
+{
+    put_byte(bytes, at, 0, a);
+    put_byte(bytes, at, 1, b);
+    put_byte(bytes, at, 2, c);
+    put_byte(bytes, at, 3, d);
+}
+
+// Stores a 16-bit number at a place.
+pub fn put_half(bytes: &mut [u8], at: usize, order: Order, v: u16)
+    ensures { λ _. ⌜ now (bytes .exit) ≡ putHalf order (now (bytes .entry)) at v ⌝ }
+{
+    let n = v as u32;
+    match order {
+        Order::Big => put_two(bytes, at, low(n / 256), low(n)),
+        Order::Little => put_two(bytes, at, low(n), low(n / 256)),
+    }
+}
+
+// Stores a 32-bit number at a place.
+pub fn put_word(bytes: &mut [u8], at: usize, order: Order, v: u32)
+    ensures { λ _. ⌜ now (bytes .exit) ≡ putWord order (now (bytes .entry)) at v ⌝ }
+{
+    let a = low(v);
+    let b = low(v / 256);
+    let c = low(v / 256 / 256);
+    let d = low(v / 256 / 256 / 256);
+    match order {
+        Order::Big => put_four(bytes, at, d, c, b, a),
+        Order::Little => put_four(bytes, at, a, b, c, d),
+    }
+}
+
+// A pointer minus the base address, modulo two to the 32.
+pub fn offset_from(base: u32, pointer: u32) -> u32
+    ensures { λ r. ⌜ r ≡ offset base pointer ⌝ }
+{
+    std::num::wrapping_sub_u32(pointer, base)
+}
+
+// How many ones a mask has, all at the bottom; 0 where it is no such mask.
+pub fn mask_width(mask: u32) -> u32
+    ensures { λ r. ⌜ r ≡ width mask ⌝ }
+{
+    let ones = u32::count_ones(mask);
+    if ones == 32 - u32::leading_zeros(mask) {
+        ones
+    } else {
+        0
+    }
+}
