@@ -1,18 +1,16 @@
 // The registry: a search of its entries.
-use crate::eager::both;
-use crate::eager::either;
-use crate::layout::entry_count;
-use crate::layout::entry_size;
-use crate::Header;
-use crate::Wanted;
+use header::geometry_of;
+use rows::both;
+use rows::either;
+use trace::Header;
+use trace::Wanted;
 use words::Order;
 ghost use mathlib.Core.Path.{_≡_};
-ghost use mathlib.Core.Bool.{_&&_};
 ghost use Prim.Native.Nat.{_<_, _^_};
 ghost use lib.Dec.{eqb};
 ghost use Rattle.rows.specs.Lowest.{lowest};
-ghost use Rattle.dump.specs.Layout.{entryCount};
-ghost use Rattle.dump.specs.Registry.{isInUse, isAllowedType, pointerAt, isWantedAt, isWanted};
+ghost use Rattle.trace.specs.Layout.{entryCount};
+ghost use Rattle.trace.specs.Registry.{isInUse, isAllowedType, pointerAt, isWantedAt, isWanted};
 
 fn in_use(dump: &[u8], at: usize) -> bool
     ensures { λ r. ⌜ r ≡ isInUse (now (dump .entry)) at ⌝ }
@@ -21,7 +19,7 @@ fn in_use(dump: &[u8], at: usize) -> bool
 }
 
 // Whether an object may have this type.
-pub fn allowed_type(t: u8) -> bool
+fn allowed_type(t: u8) -> bool
     ensures { λ r. ⌜ r ≡ isAllowedType t ⌝ }
 {
     either(both(1 <= t, t <= 14), both(21 <= t, t <= 28))
@@ -54,8 +52,9 @@ fn is_wanted(dump: &[u8], at: usize, order: Order, wanted: Wanted) -> bool
 pub fn lowest_entry(dump: &[u8], h: Header, wanted: Wanted) -> usize
     ensures { λ r. ⌜ r ≡ lowest (isWanted wanted (now (dump .entry)) h) (entryCount h) ⌝ }
 {
-    let entries = entry_count(h);
-    let size = entry_size(h);
+    let g = geometry_of(h);
+    let entries = g.entries;
+    let size = g.entry_size;
     let order = h.order;
     let mut i = 0;
     let mut at = 48;

@@ -1,5 +1,7 @@
-// A refusal by number and place, and rows checked in order.
+// A refusal by number and place, rows checked in order, and tests with both sides worked out, so that a row is code with no branch.
 ghost use mathlib.Core.Path.{_≡_};
+ghost use mathlib.Core.Bool.{_&&_, _||_, cond};
+ghost use Prim.Native.Nat.{_-_, _≤_};
 ghost use Rattle.rows.specs.Rows.{rowAt, afterRow};
 
 pub struct Refusal {
@@ -26,4 +28,32 @@ pub fn after(earlier: Verdict, number: u32, broken: bool, place: usize) -> Verdi
             }
         }
     }
+}
+
+// Whether one of two tests holds.
+pub fn either(a: bool, b: bool) -> bool
+    ensures { λ r. ⌜ r ≡ (a || b) ⌝ }
+{
+    if a { true } else { b }
+}
+
+// Whether two tests hold.
+pub fn both(a: bool, b: bool) -> bool
+    ensures { λ r. ⌜ r ≡ (a && b) ⌝ }
+{
+    if a { b } else { false }
+}
+
+// What a has above b, or 0.
+pub fn above(a: usize, b: usize) -> usize
+    ensures { λ r. ⌜ r ≡ a - b ⌝ }
+{
+    if b <= a { a - b } else { 0 }
+}
+
+// One where the test holds.
+pub fn one_if(a: bool) -> usize
+    ensures { λ r. ⌜ (r ≡ cond a 1 0) × (r ≤ 1) ⌝ }
+{
+    if a { 1 } else { 0 }
 }

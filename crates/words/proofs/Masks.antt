@@ -24,8 +24,8 @@ width-of (suc n) w low high =
     ⊎-elim
     (λ e. rw (eqb-true w (suc n) e, eq-eqb (2 ^ suc n - 1) (2 ^ suc n - 1) refl))
     (λ e.
-      let less : w < suc n = omega (arith, eqb-false w (suc n) e) in
-      rw (ne-eqb (2 ^ w - 1) (2 ^ suc n - 1) (λ same. omega (arith, pow-lt less, pow-pos w)), width-of n w low (omega arith)))
+    let less : w < suc n = omega (arith, eqb-false w (suc n) e) in
+    rw (ne-eqb (2 ^ w - 1) (2 ^ suc n - 1) (λ same. omega (arith, pow-lt less, pow-pos w)), width-of n w low (omega arith)))
     (tested (eqb w (suc n)))
 
 -- a width is that of so many ones at the bottom

@@ -126,10 +126,10 @@ pub fn put_word(bytes: &mut [u8], at: usize, order: Order, v: u32)
 }
 
 // A pointer minus the base address, modulo two to the 32.
-pub fn offset_from(base: u32, pointer: u32) -> u32
+pub fn offset_from(base: u32, pointer: u32) -> usize
     ensures { λ r. ⌜ r ≡ offset base pointer ⌝ }
 {
-    std::num::wrapping_sub_u32(pointer, base)
+    std::num::wrapping_sub_u32(pointer, base) as usize
 }
 
 // How many ones a mask has, all at the bottom; 0 where it is no such mask.

@@ -1,5 +1,5 @@
 -- `dump::registry::allowed_type` meets its contract.
-use Rattle.dump.specs.Registry.{isAllowedType}
+use Rattle.trace.specs.Registry.{isAllowedType}
 use borrow.Author.Needs.{needs}
 use Rattle.dump.proofs.registry.allowed_type.Statement.{statement}
 use Rattle.dump.proofs.registry.allowed_type.Tie as tie

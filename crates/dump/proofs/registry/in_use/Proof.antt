@@ -1,5 +1,5 @@
 -- `dump::registry::in_use` meets its contract.
-use Rattle.dump.specs.Registry.{isInUse}
+use Rattle.trace.specs.Registry.{isInUse}
 use borrow.Author.Needs.{needs}
 use Rattle.dump.proofs.registry.in_use.Statement.{statement}
 use Rattle.dump.proofs.registry.in_use.Tie as tie

@@ -1,5 +1,5 @@
 -- `dump::registry::is_wanted` meets its contract, by the case of what is wanted.
-use Rattle.dump.specs.Registry.{isWantedAt}
+use Rattle.trace.specs.Registry.{isWantedAt}
 use borrow.Author.Needs.{needs}
 use Rattle.dump.proofs.registry.is_wanted.Statement.{statement}
 use Rattle.dump.proofs.registry.is_wanted.Tie as tie

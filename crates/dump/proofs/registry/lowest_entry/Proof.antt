@@ -1,39 +1,40 @@
 -- `dump::registry::lowest_entry` meets its contract. The loop's invariant: `at` is where entry `i` starts, and no entry below `i` is wanted.
+use mathlib.Core.Path.{_≡_, _∙_, sym}
+use Rattle.dump.proofs.Steps.{step-more, entries-are, entry-below}
 use Prim.Native.Nat.{ℕ, _+_, _*_, _-_, _<_, _≤_, _^_}
 use mathlib.Core.Bool.{false}
-use mathlib.Core.Path.{_≡_, _∙_}
 use native.Mathlib.Omega.{arith}
 use borrow.Author.Count.{below-none, below-more}
 use borrow.Author.Needs.{needs}
 use Rattle.rows.proofs.Lowest.{lowest-none, lowest-at}
-use Rattle.dump.specs.Layout.{entryCount}
-use Rattle.dump.specs.Registry.{isWantedAt, isWanted}
-use Rattle.dump.proofs.Steps.{step-more, entry-below}
+use Rattle.trace.specs.Layout.{entryCount}
+use Rattle.trace.specs.Registry.{isWantedAt, isWanted}
 use Rattle.dump.proofs.registry.lowest_entry.Statement.{statement}
 use Rattle.dump.proofs.registry.lowest_entry.Tie as tie
 
 abbrev Inv-loop : tie.InvT-loop
-Inv-loop dump wanted entries size order i₀ at₀ i at = (i ≤ entries) × (at ≡ 48 + i * size) × ((k : ℕ) → k < i → isWantedAt wanted order dump (48 + k * size) ≡ false)
+Inv-loop dump wanted entries size order i₀ at₀ i at =
+    (i ≤ entries) × (at ≡ 48 + i * size) × ((k : ℕ) → k < i → isWantedAt wanted order dump (48 + k * size) ≡ false)
 
 abbrev μ-loop : tie.MeasureT-loop
 μ-loop dump wanted entries size order i₀ at₀ i at = entries - i
 
-entry-count-requires : tie.Need-entry-count-requires Inv-loop μ-loop
-entry-count-requires c κs = search needs
-
-entry-size-requires : tie.Need-entry-size-requires Inv-loop μ-loop
-entry-size-requires c κs = search needs
+geometry-of-requires : tie.Need-geometry-of-requires Inv-loop μ-loop
+geometry-of-requires c κs = search needs
 
 loop-holds : tie.Need-loop-holds Inv-loop μ-loop
 loop-holds c = (omega arith, omega arith, below-none _)
 
 -- entry `i` ends below two to the 33
-room : (c : tie.Else1 Inv-loop μ-loop) → c .before .loop .at + c .before .before .entry-size .result < 2 ^ 33
+room : (c : tie.Else1 Inv-loop μ-loop) → c .before .loop .at + c .before .before .geometry-of .result .«entry_size» < 2 ^ 33
 room c =
-    let a = c .before .before .before .before .before .args in
-    let size = c .before .before .entry-size in
-    let entries = c .before .before .before .entry-count in
-    omega (arith, entry-below (a .h) (c .before .loop .i) (entries .result) (size .result) (entries .ensures) (size .ensures) (omega arith))
+    let g = c .before .before .geometry-of in
+    omega (arith, entry-below (c .before .before .before .before .args .h) (g .result) (g .ensures) (c .before .loop .i) (omega arith))
+
+-- no entry below `i` is wanted, as the definition says it
+passed : (c : tie.At-loop Inv-loop μ-loop) (k : ℕ) → k < c .loop .i
+    → isWanted (c .before .before .before .args .wanted) (c .before .before .before .args .dump .now) (c .before .before .before .args .h) k ≡ false
+passed c k l = rw (c .before .geometry-of .ensures) at (c .loop .inv .2 k l)
 
 is-wanted-requires : tie.Need-is-wanted-requires Inv-loop μ-loop
 is-wanted-requires c κs = omega (arith, room c)
@@ -50,21 +51,25 @@ loop-less c = omega arith
 loop-again : tie.Need-loop-again Inv-loop μ-loop
 loop-again c =
     let l = c .before .before .before .loop in
-    (omega arith, omega (arith, step-more (l .i) (c .before .before .before .before .entry-size .result)), below-more _ _ (l .inv .2) (cc))
+    let g = c .before .before .before .before .geometry-of .result in
+    (omega arith, omega (arith, step-more (l .i) (g .«entry_size»)), below-more _ _ (l .inv .2) (cc))
 
 returns : tie.Need-returns Inv-loop μ-loop
 returns c =
-    let a = c .before .before .before .before .before .args in
-    let size = c .before .before .entry-size in
-    let entries = c .before .before .before .entry-count in
-    entries .ensures ∙ lowest-none (isWanted (a .wanted) (a .dump .now) (a .h)) (entryCount (a .h)) (λ k l. rw (size .ensures) at (c .before .loop .inv .2 k (omega arith)))
+    let at = c .before in
+    let a = at .before .before .before .args in
+    let g = at .before .geometry-of in
+    let all = entries-are (a .h) (g .result) (g .ensures) in
+    all ∙ lowest-none (isWanted (a .wanted) (a .dump .now) (a .h)) (entryCount (a .h)) (λ k l. passed at k (omega arith))
 
 returns-2 : tie.Need-returns-2 Inv-loop μ-loop
 returns-2 c =
-    let a = c .before .before .before .before .before .before .before .args in
-    let size = c .before .before .before .before .entry-size in
-    let l = c .before .before .before .loop in
-    lowest-at (isWanted (a .wanted) (a .dump .now) (a .h)) (entryCount (a .h)) (l .i) (omega arith) (λ k b. rw (size .ensures) at (l .inv .2 k b)) (cc)
+    let at = c .before .before .before in
+    let a = at .before .before .before .args in
+    let g = at .before .geometry-of in
+    let all = entries-are (a .h) (g .result) (g .ensures) in
+    lowest-at (isWanted (a .wanted) (a .dump .now) (a .h)) (entryCount (a .h)) (at .loop .i) (omega arith) (passed at)
+    (rw (at .loop .inv .1, g .ensures) at (sym (c .before .is-wanted .ensures) ∙ c .if2 .taken))
 
 pub lowest-entry-spec : {M : Type 1} → statement M
 lowest-entry-spec =
@@ -72,8 +77,7 @@ lowest-entry-spec =
     (tie.spec
     Inv-loop
     μ-loop
-    entry-count-requires
-    entry-size-requires
+    geometry-of-requires
     loop-holds
     is-wanted-requires
     add-i
