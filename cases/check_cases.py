@@ -1,0 +1,313 @@
+#!/usr/bin/env python3
+"""The dumps on which the program check_cases runs, and what it must print.
+
+Written from document 01 alone: `answer` below reads a dump in Python, and each case says by hand
+what 01 gives. The two must agree, or nothing is written.
+
+    check_cases.py          writes data/dumps and stdout of the crate check_cases
+    check_cases.py --check  says whether they are as this script makes them
+"""
+import struct
+import sys
+from pathlib import Path
+
+CRATE = Path(__file__).resolve().parent.parent / "crates" / "check_cases"
+ID = 0x54585442
+TWO_32 = 1 << 32
+
+
+class Dump:
+    """The fields of a dump, to be changed by a case before it becomes bytes."""
+
+    def __init__(self, entries=3, slots=4, name_size=8, base=0x20000000):
+        self.entry_size = 16 + name_size
+        self.slot_size = 32
+        end = 48 + entries * self.entry_size
+        self.id, self.mask, self.base, self.name_size = ID, 0xFFFF, base, name_size
+        self.registry_start = base + 48
+        self.registry_end = base + end
+        self.buffer_start = base + end
+        self.buffer_end = base + end + slots * 32
+        self.current = base + end
+        self.reserved = [0, 0, 0, 0]
+        # flag, type, the two reserved bytes, pointer, parameters, name
+        self.entries = [[0, 1, b"\0\0", 0x20001000 + i, 0, 0, b"pump"] for i in range(entries)]
+        # thread pointer, priority field, event id, time stamp, four information words
+        self.slots = [[0] * 8 for _ in range(slots)]
+        self.tail = b""
+        self.cut = None
+        self.raw = {}
+
+    def use(self, *indices):
+        for i in indices:
+            self.slots[i] = [0x20001000, 16, 5, 100 + i, 1, 2, 3, 4]
+        return self
+
+    def at(self, index):
+        """Current becomes the slot with that index."""
+        self.current = self.buffer_start + index * 32
+        return self
+
+    def bytes(self, order):
+        word = lambda value: struct.pack(order + "I", value % TWO_32)
+        half = lambda value: struct.pack(order + "H", value)
+        out = word(self.id) + word(self.mask) + word(self.base) + word(self.registry_start)
+        out += half(self.reserved[0]) + half(self.name_size)
+        out += word(self.registry_end) + word(self.buffer_start) + word(self.buffer_end) + word(self.current)
+        out += b"".join(word(value) for value in self.reserved[1:])
+        for flag, kind, spare, pointer, one, two, name in self.entries:
+            out += bytes([flag, kind]) + spare + word(pointer) + word(one) + word(two)
+            out += name.ljust(self.entry_size - 16, b"\0")
+        for slot in self.slots:
+            out += b"".join(word(value) for value in slot)
+        out += self.tail
+        for place, value in self.raw.items():
+            out = out[:place] + bytes([value]) + out[place + 1:]
+        return out if self.cut is None else (out + bytes(self.cut))[:self.cut]
+
+
+def answer(dump):
+    """What 01 gives for checking these bytes, worked out rule by rule."""
+    if len(dump) < 48:
+        return "1 0"
+    if len(dump) > 65536:
+        return "2 0"
+    if dump[:4] == bytes.fromhex("54585442"):
+        order, name = ">", "big"
+    elif dump[:4] == bytes.fromhex("42545854"):
+        order, name = "<", "little"
+    else:
+        return "3 0"
+    ident, mask, base, registry_start, _, name_size, registry_end, start, end, current = struct.unpack(
+        order + "IIIIHHIIII", dump[:36])
+    if mask not in [(1 << w) - 1 for w in range(1, 33)]:
+        return "4 0"
+    if name_size not in range(4, 65, 4):
+        return "5 0"
+    offset = lambda pointer: (pointer - base) % TWO_32
+    if offset(registry_start) != 48:
+        return "6 0"
+    size = 16 + name_size
+    if not 48 <= offset(registry_end) <= len(dump) or (offset(registry_end) - 48) % size:
+        return "7 0"
+    if start != registry_end:
+        return "8 0"
+    first, last = offset(start), offset(end)
+    if not first < last <= len(dump) or (last - first) % 32:
+        return "9 0"
+    if not first <= offset(current) < last or (offset(current) - first) % 32:
+        return "10 0"
+    for i, place in enumerate(range(48, offset(registry_end), size)):
+        if dump[place] != 1 and dump[place + 1] not in [*range(1, 15), *range(21, 29)]:
+            return f"11 {i}"
+    slots = [struct.unpack(order + "8I", dump[place:place + 32]) for place in range(first, last, 32)]
+    used = [slot[0] != 0 for slot in slots]
+    here = (offset(current) - first) // 32
+    rule = [True] * len(slots) if used[here] else [i < here for i in range(len(slots))]
+    for i in range(len(slots)):
+        if i != here and used[i] != rule[i]:
+            return f"12 {i}"
+    for i, slot in enumerate(slots):
+        if used[i] and slot[2] == 0:
+            return f"13 {i}"
+    fields = [ident, mask, base, registry_start, name_size, registry_end, start, end, current]
+    return " ".join([name, *map(str, fields), str(sum(used))])
+
+
+CASES = []
+
+
+def case(name, expected, dump):
+    """A case in both orders: a refusal as 'number place', or the event count of a dump that passes."""
+    CASES.append((name, expected, dump))
+
+
+def changed(dump, **fields):
+    for field, value in fields.items():
+        setattr(dump, field, value)
+    return dump
+
+
+def shifted(field, by, **geometry):
+    """A pointer of a sound dump moved by some bytes."""
+    dump = Dump(**geometry)
+    return changed(dump, **{field: getattr(dump, field) + by})
+
+
+def entry(index, flag, kind):
+    dump = Dump()
+    dump.entries[index][:2] = [flag, kind]
+    return dump
+
+
+def ident(slots, index, value):
+    dump = Dump().use(*slots).at(len(slots) % 4)
+    dump.slots[index][2] = value
+    return dump
+
+
+def sound():
+    case("empty ring", 0, Dump())
+    case("smallest dump", 0, Dump(entries=0, slots=1))
+    case("one slot, used", 1, Dump(entries=0, slots=1).use(0))
+    case("top of memory, end pointer 0", 4, Dump(entries=4, slots=4, name_size=4, base=0xFFFFFF00).use(0, 1, 2, 3))
+    case("base past the registry's wrap", 2, Dump(base=0xFFFFFFE0).use(0, 1).at(2))
+    case("reserved fields hold anything", 1,
+         changed(Dump().use(0).at(1), reserved=[0xFFFF, 0xFFFFFFFF, 0x54585442, 1]))
+    case("bytes past the buffer end hold anything", 1, changed(Dump().use(0).at(1), tail=b"\xff" * 77))
+
+
+def length():
+    case("length 0", "1 0", changed(Dump(), cut=0))
+    case("length 47", "1 0", changed(Dump(), cut=47))
+    case("length 48 passes 1", "7 0", changed(Dump(), cut=48))
+    full = Dump(entries=0, slots=2046).use(*range(2046))
+    case("length 65536", 2046, changed(full, cut=65536))
+    case("length 65537", "2 0", changed(Dump(), cut=65537))
+    case("length 65537 with a bad id", "2 0", changed(Dump(), cut=65537, id=0))
+    case("length 47 with a bad id", "1 0", changed(Dump(), cut=47, id=0))
+
+
+def identity():
+    for place in range(4):
+        case(f"id byte {place} is 43", "3 0", changed(Dump(), raw={place: 0x43}))
+    case("id 0", "3 0", changed(Dump(), id=0))
+    case("id in neither order", "3 0", changed(Dump(), id=0x58544254))
+
+
+def mask():
+    for width in (1, 2, 16, 31, 32):
+        case(f"mask of width {width}", 0, changed(Dump(), mask=(1 << width) - 1))
+    for value in (0, 2, 5, 0xFF00, 0x80000000, 0xFFFFFFFE, 0x7FFFFFFE, 0xFFFEFFFF):
+        case(f"mask {value:#x}", "4 0", changed(Dump(), mask=value))
+
+
+def name_size():
+    for size in range(4, 65, 4):
+        case(f"name size {size}", 0, Dump(name_size=size))
+    for size in (0, 1, 3, 5, 6, 7, 63, 65, 66, 68, 0x0400, 0xFFFC):
+        case(f"name size {size} refused", "5 0", changed(Dump(), name_size=size))
+
+
+def registry():
+    for by in (-1, 1, -48, 4):
+        case(f"registry start off by {by}", "6 0", shifted("registry_start", by))
+    case("no entries", 0, Dump(entries=0))
+    case("registry end offset 47", "7 0", shifted("registry_end", -1, entries=0))
+    case("registry end offset 24", "7 0", shifted("registry_end", -24, entries=0))
+    case("registry end below the base", "7 0", shifted("registry_end", -49, entries=0))
+    case("registry end one short of whole entries", "7 0", shifted("registry_end", -1))
+    case("registry end one past whole entries", "7 0", shifted("registry_end", 1))
+    case("registry end at the dump's end passes 7", "9 0", changed(Dump(entries=3, slots=1), cut=48 + 3 * 24))
+    case("registry end past the dump", "7 0", changed(Dump(entries=3, slots=1), cut=48 + 3 * 24 - 1))
+    for by in (-1, 1, -24, 32):
+        case(f"buffer start off by {by}", "8 0", shifted("buffer_start", by))
+
+
+def buffer():
+    case("buffer end at its start", "9 0", shifted("buffer_end", -128))
+    case("buffer end below its start", "9 0", shifted("buffer_end", -160))
+    case("buffer end one short of a slot", "9 0", shifted("buffer_end", -97))
+    case("buffer of one slot, more bytes behind", 0, shifted("buffer_end", -96))
+    case("buffer end one past a slot", "9 0", shifted("buffer_end", -95))
+    case("buffer end one slot before the dump's end", 0, shifted("buffer_end", -32))
+    case("buffer end one slot past the dump", "9 0", shifted("buffer_end", 32))
+    case("buffer end one byte past the dump", "9 0", changed(Dump(), cut=48 + 3 * 24 + 127))
+    case("current one slot before the start", "10 0", shifted("current", -32))
+    case("current one byte before the start", "10 0", shifted("current", -1))
+    case("current one byte past the start", "10 0", shifted("current", 1))
+    case("current one byte before slot 1", "10 0", shifted("current", 31))
+    case("current at the last slot", 3, Dump().use(0, 1, 2).at(3))
+    case("current at the end", "10 0", shifted("current", 128))
+    case("current one byte before the end", "10 0", shifted("current", 127))
+    case("current a slot past the end", "10 0", changed(Dump().at(5), tail=bytes(64)))
+
+
+def types():
+    for kind in (1, 2, 14, 21, 28):
+        case(f"type {kind} in use", 0, entry(1, 0, kind))
+    for kind in (0, 15, 20, 29, 255):
+        case(f"type {kind} in use refused", "11 1", entry(1, 0, kind))
+        case(f"type {kind} in a free entry", 0, entry(1, 1, kind))
+    for flag in (2, 255):
+        case(f"flag {flag} is in use", "11 2", entry(2, flag, 0))
+    case("bad type in the first entry", "11 0", entry(0, 0, 15))
+    two = entry(1, 0, 20)
+    two.entries[2][1] = 29
+    case("two bad types give the lower", "11 1", two)
+
+
+def ring():
+    case("one used, current after it", 1, Dump().use(0).at(1))
+    case("full ring, current at the start", 4, Dump().use(0, 1, 2, 3))
+    for index in range(4):
+        case(f"full ring, current at {index}", 4, Dump().use(0, 1, 2, 3).at(index))
+    case("current used, a later slot unused", "12 3", Dump().use(0, 1, 2).at(1))
+    case("current used, an earlier slot unused", "12 0", Dump().use(1, 2, 3).at(2))
+    case("current alone used", "12 0", Dump().use(2).at(2))
+    case("current used at 0 alone", "12 1", Dump().use(0).at(0))
+    case("current unused, an earlier slot unused", "12 1", Dump().use(0, 2).at(3))
+    case("current unused, the slot before it unused", "12 2", Dump().use(0, 1).at(3))
+    case("current unused, a later slot used", "12 3", Dump().use(0, 1, 3).at(2))
+    case("current unused, the slot after it used", "12 2", Dump().use(0, 2).at(1))
+    case("current unused at 0, the last slot used", "12 3", Dump().use(3).at(0))
+    case("two slots out of turn give the lower", "12 0", Dump().use(1, 3).at(2))
+
+
+def ids():
+    for value in (1, 1024, 1025, 0xFFFFFFFF):
+        case(f"event id {value}", 2, ident([0, 1], 1, value))
+    case("event id 0 in the first slot", "13 0", ident([0, 1], 0, 0))
+    case("event id 0 in slot 1", "13 1", ident([0, 1], 1, 0))
+    case("event id 0 in the last slot of a full ring", "13 3", ident([0, 1, 2, 3], 3, 0))
+    case("event id 0 at current of a full ring", "13 0", ident([0, 1, 2, 3], 0, 0))
+    two = ident([0, 1, 2], 1, 0)
+    two.slots[2][2] = 0
+    case("two event ids 0 give the lower", "13 1", two)
+    unused = Dump().use(0).at(1)
+    unused.slots[2] = [0, 7, 0, 9, 1, 1, 1, 1]
+    case("an unused slot may hold other words", 1, unused)
+
+
+def order_of_rows():
+    """Two rows broken at once: the earlier one is given."""
+    case("3 before 4", "3 0", changed(Dump(), id=1, mask=0))
+    case("4 before 5", "4 0", changed(Dump(), mask=0, name_size=3))
+    case("5 before 6", "5 0", changed(shifted("registry_start", 1), name_size=3))
+    case("6 before 7", "6 0", changed(shifted("registry_start", 1), registry_end=0))
+    case("7 before 8", "7 0", shifted("registry_end", 1))
+    case("8 before 9", "8 0", changed(shifted("buffer_start", 1), buffer_end=0))
+    case("9 before 10", "9 0", changed(shifted("buffer_end", 1), current=0))
+    case("10 before 11", "10 0", changed(entry(0, 0, 0), current=0))
+    late = entry(2, 0, 0).use(1)
+    case("11 before 12", "11 2", late)
+    both = Dump().use(1, 2)
+    both.slots[1][2] = 0
+    case("12 before 13", "12 1", both)
+
+
+for group in (sound, length, identity, mask, name_size, registry, buffer, types, ring, ids, order_of_rows):
+    group()
+
+data, lines = bytearray(), []
+for order, word in (("<", "little"), (">", "big")):
+    for name, expected, dump in CASES:
+        raw = dump.bytes(order)
+        given = answer(raw)
+        said = given if " " in str(expected) and given == expected else None
+        if isinstance(expected, int):
+            said = given if given.split()[0] == word and given.split()[-1] == str(expected) else None
+        if said is None:
+            sys.exit(f"{name}, {word}: by hand {expected}, by rule {given}")
+        title = f"{name}, {word}".encode()
+        data += bytes([len(title)]) + title + struct.pack("<I", len(raw)) + raw
+        lines.append(f"{name}, {word}: {said}")
+
+made = {CRATE / "data" / "dumps": bytes(data), CRATE / "stdout": ("\n".join(lines) + "\n").encode()}
+if sys.argv[1:] == ["--check"]:
+    stale = [str(path.name) for path, content in made.items() if not path.exists() or path.read_bytes() != content]
+    sys.exit(f"not as check_cases.py makes them: {', '.join(stale)}" if stale else 0)
+for path, content in made.items():
+    path.parent.mkdir(parents=True, exist_ok=True)
+    path.write_bytes(content)
+print(f"{len(lines)} cases, {len(data)} bytes")

@@ -1,0 +1,104 @@
+// Checks each dump of the file `dumps` and prints what the check gives, a line for each.
+// A case in the file is a name's length (a byte), the name, the dump's length (32 bits, little-endian) and the dump.
+use libc::STDOUT_FILENO;
+use rows::Refusal;
+use trace::Checked;
+use trace::Header;
+use words::Order;
+ghost use Rattle.io.specs.Counts.{Counts};
+
+fn print_space(n: u64) {
+    io::write_all(STDOUT_FILENO, b" ");
+    io::print_decimal(STDOUT_FILENO, n);
+}
+
+fn print_refusal(refusal: Refusal) {
+    io::print_decimal(STDOUT_FILENO, refusal.number as u64);
+    print_space(refusal.place as u64);
+}
+
+fn print_order(order: Order) {
+    match order {
+        Order::Big => io::write_all(STDOUT_FILENO, b"big"),
+        Order::Little => io::write_all(STDOUT_FILENO, b"little"),
+    };
+}
+
+fn print_header(h: Header) {
+    let order = h.order;
+    print_order(order);
+    print_space(h.id as u64);
+    print_space(h.mask as u64);
+    print_space(h.base as u64);
+    print_space(h.registry_start as u64);
+    print_space(h.name_size as u64);
+    print_space(h.registry_end as u64);
+    print_space(h.buffer_start as u64);
+    print_space(h.buffer_end as u64);
+    print_space(h.current as u64);
+}
+
+fn print_answer(answer: Checked) {
+    match answer {
+        Checked::Refused(refusal) => print_refusal(refusal),
+        Checked::Sound(header, events) => {
+            print_header(header);
+            print_space(events as u64);
+        }
+    }
+}
+
+// Reads so many bytes, if the space has room for them, and says how many came.
+fn read_some(file: i32, space: &mut [u8], size: usize) -> usize
+    ensures { λ r. ⌜ Counts r (now (space .exit)) ⌝ }
+{
+    if space.len() < size {
+        return 0;
+    }
+    io::read_full(file, &mut space[..size])
+}
+
+// Reads a case's name and prints it; says whether there was one.
+fn print_name(file: i32, space: &mut [u8]) -> bool {
+    if read_some(file, space, 1) != 1 {
+        return false;
+    }
+    let size = words::byte(space, 0, 0) as usize;
+    let n = read_some(file, space, size);
+    io::write_all(STDOUT_FILENO, &space[..n]);
+    io::write_all(STDOUT_FILENO, b": ");
+    true
+}
+
+// Prints a case's line; says whether there was a case.
+fn print_case(file: i32, space: &mut [u8]) -> bool {
+    if !print_name(file, space) {
+        return false;
+    }
+    read_some(file, space, 4);
+    let size = words::word(space, 0, Order::Little) as usize;
+    let n = read_some(file, space, size);
+    print_answer(dump::check(&space[..n]));
+    io::write_all(STDOUT_FILENO, b"\n");
+    true
+}
+
+// Nothing says that a file ends, so the loop counts its turns down.
+fn print_cases(file: i32, space: &mut [u8]) {
+    let mut turns = 65536u64;
+    while turns > 0 && print_case(file, space) {
+        turns -= 1;
+    }
+}
+
+fn main() {
+    let path = b"dumps";
+    let file = os::open_read(path);
+    if file < 0 {
+        os::fail(path);
+        return;
+    }
+    let mut space = [0u8; 65537];
+    print_cases(file, &mut space);
+    libc::close(file);
+}
