@@ -126,6 +126,23 @@ unfolding numberAt
 number-below o n s at small =
     rw (order-length o (bytesAt s at n), at-length n s at) at (joined-below (each-order o (each-at n s at small)))
 
+-- the bytes that were read are those of the number
+split-joined : {bs : List ℕ} → Each bs → split (length bs) (joined bs) ≡ bs
+unfolding joined split
+split-joined none = refl
+split-joined (more {b} {bs} small p) =
+    let low : (b + 256 * joined bs) % 256 ≡ b = omega arith in
+    let high : (b + 256 * joined bs) / 256 ≡ joined bs = omega arith in
+    rw (low, high, split-joined p)
+
+pub read-bytes : (o : Order) (n : ℕ) (s : List ℕ) (at : ℕ) → AreBytes s → numberBytes o n (numberAt o n s at) ≡ bytesAt s at n
+unfolding numberAt numberBytes
+read-bytes o n s at small =
+    let ordered = lowestFirst o (bytesAt s at n) in
+    let long : length ordered ≡ n = order-length o (bytesAt s at n) ∙ at-length n s at in
+    let same : split n (joined ordered) ≡ ordered = rw long at (split-joined (each-order o (each-at n s at small))) in
+    rw same (order-back o (bytesAt s at n))
+
 -- a difference around a circle of two to the w is below it
 pub minus-below : (w a b : ℕ) → minus w a b < 2 ^ w
 unfolding minus

@@ -1,0 +1,58 @@
+-- The starred cases of document 01, in one table.
+use Prim.Native.Nat.{ℕ, _+_}
+use mathlib.Core.List.{List, [], _∷_, _++_}
+use mathlib.Core.Path.{_≡_}
+use lib.ListN.{length, replicate}
+use Rattle.words.specs.Words.{numberBytes}
+use Rattle.words.specs.declared.Order.{Order}
+use Rattle.trace.specs.Check.{checkOf}
+use Rattle.trace.specs.Layout.{traceId, bufferEnd}
+use Rattle.trace.specs.declared.Checked.{Checked}
+use Rattle.trace.specs.declared.Checked.the-variants.{Refused, Sound}
+use Rattle.trace.specs.declared.Header.{Header}
+
+-- the header of a buffer that ends at the top of memory: base 0xFFFFFF00, name size 4, four entries, four slots
+unfoldable pub topHeader : Order → ℕ → Header
+topHeader o mask = record {
+  order = o;
+  id = traceId;
+  mask = mask;
+  base = 0xFFFFFF00;
+  «registry_start» = 0xFFFFFF30;
+  «name_size» = 4;
+  «registry_end» = 0xFFFFFF80;
+  «buffer_start» = 0xFFFFFF80;
+  «buffer_end» = 0;
+  current = 0xFFFFFF80;
+}
+
+-- its bytes, in the header's order
+unfoldable pub headerBytes : Header → List ℕ
+headerBytes h =
+    word (h .id) ++ word (h .mask) ++ word (h .base) ++ word (h .«registry_start»)
+    ++ numberBytes (h .order) 2 0 ++ numberBytes (h .order) 2 (h .«name_size»)
+    ++ word (h .«registry_end») ++ word (h .«buffer_start») ++ word (h .«buffer_end») ++ word (h .current)
+    ++ replicate 12 0
+  where
+    word : ℕ → List ℕ
+    word v = numberBytes (h .order) 4 v
+
+-- the dump: four free entries and four unused slots
+unfoldable pub topDump : Order → ℕ → List ℕ
+topDump o mask = headerBytes (topHeader o mask) ++ freeEntry ++ freeEntry ++ freeEntry ++ freeEntry ++ replicate 128 0
+  where
+    freeEntry : List ℕ
+    freeEntry = 1 ∷ replicate 19 0
+
+abbrev pub refused : ℕ → Checked
+refused number = Refused (record { number = number; place = 0 })
+
+-- one row a case, for either byte order
+pub record Starred (o : Order) : Type 0 where
+  pub mask-0x1 : checkOf (topDump o 0x1) ≡ Sound (topHeader o 0x1) 0
+  pub mask-0xFFFFFFFF : checkOf (topDump o 0xFFFFFFFF) ≡ Sound (topHeader o 0xFFFFFFFF) 0
+  pub mask-0 : checkOf (topDump o 0) ≡ refused 4
+  pub mask-0x5 : checkOf (topDump o 0x5) ≡ refused 4
+  pub mask-0xFF00 : checkOf (topDump o 0xFF00) ≡ refused 4
+  pub end-pointer-0 : checkOf (topDump o 0xFFFF) ≡ Sound (topHeader o 0xFFFF) 0
+  pub end-offset-256 : bufferEnd (topHeader o 0xFFFF) ≡ 256

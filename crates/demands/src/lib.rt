@@ -1,0 +1,1 @@
+// Theorems over the definitions that the promises cite. No code.
