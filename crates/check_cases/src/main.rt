@@ -21,27 +21,28 @@ fn print_order(order: Order) {
     match order {
         Order::Big => io::write_all(STDOUT_FILENO, b"big"),
         Order::Little => io::write_all(STDOUT_FILENO, b"little"),
-    };
+    }
+    ;
 }
 
-fn print_header(h: Header) {
-    let order = h.order;
+fn print_header(header: Header) {
+    let order = header.order;
     print_order(order);
-    print_space(h.id as u64);
-    print_space(h.mask as u64);
-    print_space(h.base as u64);
-    print_space(h.registry_start as u64);
-    print_space(h.name_size as u64);
-    print_space(h.registry_end as u64);
-    print_space(h.buffer_start as u64);
-    print_space(h.buffer_end as u64);
-    print_space(h.current as u64);
+    print_space(header.id as u64);
+    print_space(header.mask as u64);
+    print_space(header.base as u64);
+    print_space(header.registry_start as u64);
+    print_space(header.name_size as u64);
+    print_space(header.registry_end as u64);
+    print_space(header.buffer_start as u64);
+    print_space(header.buffer_end as u64);
+    print_space(header.current as u64);
 }
 
 fn print_answer(answer: Checked) {
     match answer {
         Checked::Refused(refusal) => print_refusal(refusal),
-        Checked::Sound(header, events) => {
+        Checked::Sound { header, events } => {
             print_header(header);
             print_space(events as u64);
         }

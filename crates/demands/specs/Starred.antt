@@ -1,8 +1,8 @@
 -- The starred cases of document 01, in one table.
-use Prim.Native.Nat.{ℕ, _+_}
-use mathlib.Core.List.{List, [], _∷_, _++_}
+use Prim.Native.Nat.{ℕ}
+use mathlib.Core.List.{List, _∷_, _++_}
 use mathlib.Core.Path.{_≡_}
-use lib.ListN.{length, replicate}
+use lib.ListN.{replicate}
 use Rattle.words.specs.Words.{numberBytes}
 use Rattle.words.specs.declared.Order.{Order}
 use Rattle.trace.specs.Check.{checkOf}

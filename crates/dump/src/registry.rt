@@ -49,13 +49,13 @@ fn is_wanted(dump: &[u8], at: usize, order: Order, wanted: Wanted) -> bool
 }
 
 // The lowest entry that is wanted, or the number of entries where there is none.
-pub fn lowest_entry(dump: &[u8], h: Header, wanted: Wanted) -> usize
-    ensures { λ r. ⌜ r ≡ lowest (isWanted wanted (now (dump .entry)) h) (entryCount h) ⌝ }
+pub fn lowest_entry(dump: &[u8], header: Header, wanted: Wanted) -> usize
+    ensures { λ r. ⌜ r ≡ lowest (isWanted wanted (now (dump .entry)) header) (entryCount header) ⌝ }
 {
-    let g = geometry_of(h);
-    let entries = g.entries;
-    let size = g.entry_size;
-    let order = h.order;
+    let geometry = geometry_of(header);
+    let entries = geometry.entries;
+    let size = geometry.entry_size;
+    let order = header.order;
     let mut i = 0;
     let mut at = 48;
     loop {

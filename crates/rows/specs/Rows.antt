@@ -1,6 +1,6 @@
 -- Rows of the table of refusals, and what an order of checks gives: the first row that is broken.
 use Prim.Native.Nat.{ℕ}
-use mathlib.Core.Bool.{Bool, true, false, cond}
+use mathlib.Core.Bool.{Bool, cond}
 use mathlib.Core.List.{List, [], _∷_}
 use lib.Dec.{ltb}
 use Rattle.rows.specs.Lowest.{lowest}

@@ -1,8 +1,8 @@
 -- Numbers in bytes, for every order and every count of bytes: what was stored is read back, the rest is unchanged, the length is kept, a number is below its range. And a difference is below its circle.
 use Prim.Native.Nat.{ℕ, zero, suc, _+_, _-_, _*_, _/_, _%_, _^_, _≤_, _<_}
-use mathlib.Core.Path.{_≡_, refl, sym, ap, _∙_}
+use mathlib.Core.Path.{_≡_, refl, ap, _∙_}
 use mathlib.Core.Logic.{_⊎_, inl, inr, ⊎-elim}
-use mathlib.Core.List.{List, [], _∷_, reverse, reverseAux, reverse-reverse}
+use mathlib.Core.List.{List, [], _∷_, reverseAux, reverse-reverse}
 use native.Mathlib.Nat.{pow-suc, mod-lt}
 use native.Mathlib.Omega.{arith}
 use lib.Pow.{pow-pos}

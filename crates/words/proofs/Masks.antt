@@ -7,7 +7,7 @@ use native.Mathlib.Nat.{pow-suc}
 use native.Mathlib.Omega.{arith}
 use lib.Dec.{eqb}
 use lib.Pow.{pow-pos, pow-lt}
-use lib.Count.{ones, ones-step, ones-le, ones-ones, leadingZeros, leading-length, leading-unique, leading-le}
+use lib.Count.{ones, ones-step, ones-le, ones-ones, leadingZeros, leading-length, leading-unique}
 use borrow.Author.Tests.{eq-eqb, ne-eqb, eqb-true, eqb-false}
 use Rattle.words.specs.Masks.{widthTo, width}
 

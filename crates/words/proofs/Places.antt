@@ -1,6 +1,6 @@
 -- The places as the code counts them, `at + 1`, `at + 2`, are those of the definitions, `suc at`, `suc (suc at)`.
 use Prim.Native.Nat.{ℕ, suc, _+_}
-use mathlib.Core.Path.{_≡_, sym}
+use mathlib.Core.Path.{_≡_}
 use mathlib.Core.List.{List, [], _∷_}
 use native.Mathlib.Omega.{arith}
 use lib.ListN.{getD, set}

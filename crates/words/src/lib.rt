@@ -1,9 +1,9 @@
 // Numbers of 16 and 32 bits in bytes of either order, offsets, and the width of a mask.
 // Nothing here can fail: a byte past the end reads as 0, and is not stored.
 ghost use mathlib.Core.Path.{_≡_};
-ghost use Prim.Native.Nat.{_+_, _%_};
+ghost use Prim.Native.Nat.{_+_};
 ghost use lib.ListN.{getD, set};
-ghost use mathlib.Core.List.{List, [], _∷_};
+ghost use mathlib.Core.List.{[], _∷_};
 ghost use lib.Seq.{sets};
 ghost use Rattle.words.specs.Words.{joined, lowestFirst, halfAt, wordAt, putHalf, putWord};
 ghost use Rattle.words.specs.Offsets.{offset};
@@ -25,12 +25,6 @@ pub fn byte(bytes: &[u8], at: usize, k: usize) -> u8
         return 0;
     }
     bytes[at + k]
-}
-
-fn low(v: u32) -> u8
-    ensures { λ r. ⌜ r ≡ v % 256 ⌝ }
-{
-    (v % 256) as u8
 }
 
 fn two(order: Order, a: u8, b: u8) -> u16
@@ -72,56 +66,57 @@ pub fn word(bytes: &[u8], at: usize, order: Order) -> u32
 }
 
 // Stores a byte k places after a place.
-pub fn put_byte(bytes: &mut [u8], at: usize, k: usize, b: u8)
-    ensures { λ _. ⌜ now (bytes .exit) ≡ set (now (bytes .entry)) (at + k) b ⌝ }
+pub fn put_byte(buffer: &mut [u8], at: usize, k: usize, b: u8)
+    ensures { λ _. ⌜ now (buffer .exit) ≡ set (now (buffer .entry)) (at + k) b ⌝ }
 {
-    if bytes.len() <= at {
+    if buffer.len() <= at {
         return;
     }
-    if bytes.len() - at <= k {
+    if buffer.len() - at <= k {
         return;
     }
-    bytes[at + k] = b;
+    buffer[at + k] = b;
 }
 
-fn put_two(bytes: &mut [u8], at: usize, a: u8, b: u8)
-    ensures { λ _. ⌜ now (bytes .exit) ≡ sets (now (bytes .entry)) at (a ∷ b ∷ []) ⌝ }
+fn put_two(buffer: &mut [u8], at: usize, a: u8, b: u8)
+    ensures { λ _. ⌜ now (buffer .exit) ≡ sets (now (buffer .entry)) at (a ∷ b ∷ []) ⌝ }
 {
-    put_byte(bytes, at, 0, a);
-    put_byte(bytes, at, 1, b);
+    put_byte(buffer, at, 0, a);
+    put_byte(buffer, at, 1, b);
 }
 
-fn put_four(bytes: &mut [u8], at: usize, a: u8, b: u8, c: u8, d: u8)
-    ensures { λ _. ⌜ now (bytes .exit) ≡ sets (now (bytes .entry)) at (a ∷ b ∷ c ∷ d ∷ []) ⌝ }
+fn put_four(buffer: &mut [u8], at: usize, a: u8, b: u8, c: u8, d: u8)
+    ensures { λ _. ⌜ now (buffer .exit) ≡ sets (now (buffer .entry)) at (a ∷ b ∷ c ∷ d ∷ []) ⌝ }
 {
-    put_byte(bytes, at, 0, a);
-    put_byte(bytes, at, 1, b);
-    put_byte(bytes, at, 2, c);
-    put_byte(bytes, at, 3, d);
+    put_byte(buffer, at, 0, a);
+    put_byte(buffer, at, 1, b);
+    put_byte(buffer, at, 2, c);
+    put_byte(buffer, at, 3, d);
 }
 
 // Stores a 16-bit number at a place.
-pub fn put_half(bytes: &mut [u8], at: usize, order: Order, v: u16)
-    ensures { λ _. ⌜ now (bytes .exit) ≡ putHalf order (now (bytes .entry)) at v ⌝ }
+pub fn put_half(buffer: &mut [u8], at: usize, order: Order, v: u16)
+    ensures { λ _. ⌜ now (buffer .exit) ≡ putHalf order (now (buffer .entry)) at v ⌝ }
 {
-    let n = v as u32;
+    let a = (v % 256) as u8;
+    let b = (v / 256 % 256) as u8;
     match order {
-        Order::Big => put_two(bytes, at, low(n / 256), low(n)),
-        Order::Little => put_two(bytes, at, low(n), low(n / 256)),
+        Order::Big => put_two(buffer, at, b, a),
+        Order::Little => put_two(buffer, at, a, b),
     }
 }
 
 // Stores a 32-bit number at a place.
-pub fn put_word(bytes: &mut [u8], at: usize, order: Order, v: u32)
-    ensures { λ _. ⌜ now (bytes .exit) ≡ putWord order (now (bytes .entry)) at v ⌝ }
+pub fn put_word(buffer: &mut [u8], at: usize, order: Order, v: u32)
+    ensures { λ _. ⌜ now (buffer .exit) ≡ putWord order (now (buffer .entry)) at v ⌝ }
 {
-    let a = low(v);
-    let b = low(v / 256);
-    let c = low(v / 256 / 256);
-    let d = low(v / 256 / 256 / 256);
+    let a = (v % 256) as u8;
+    let b = (v / 256 % 256) as u8;
+    let c = (v / 256 / 256 % 256) as u8;
+    let d = (v / 256 / 256 / 256 % 256) as u8;
     match order {
-        Order::Big => put_four(bytes, at, d, c, b, a),
-        Order::Little => put_four(bytes, at, a, b, c, d),
+        Order::Big => put_four(buffer, at, d, c, b, a),
+        Order::Little => put_four(buffer, at, a, b, c, d),
     }
 }
 

@@ -4,17 +4,17 @@ use borrow.Author.Needs.{needs}
 use Rattle.words.proofs.put_word.Statement.{statement}
 use Rattle.words.proofs.put_word.Tie as tie
 
-low-requires : tie.Need-low-requires
-low-requires c κs = search needs
+cast-a : tie.Need-cast-a
+cast-a c = search needs
 
-low-requires-2 : tie.Need-low-requires-2
-low-requires-2 c κs = search needs
+cast-b : tie.Need-cast-b
+cast-b c = search needs
 
-low-requires-3 : tie.Need-low-requires-3
-low-requires-3 c κs = search needs
+cast-c : tie.Need-cast-c
+cast-c c = search needs
 
-low-requires-4 : tie.Need-low-requires-4
-low-requires-4 c κs = search needs
+cast-d : tie.Need-cast-d
+cast-d c = search needs
 
 enum-told : tie.Need-enum-told
 enum-told c = search needs
@@ -46,10 +46,10 @@ pub put-word-spec : {M : Type 1} → statement M
 put-word-spec =
     tie.close
     (tie.spec
-    low-requires
-    low-requires-2
-    low-requires-3
-    low-requires-4
+    cast-a
+    cast-b
+    cast-c
+    cast-d
     enum-told
     put-four-requires
     enum-told-2

@@ -29,11 +29,11 @@ loop-holds c = (omega arith, omega arith, below-none _)
 room : (c : tie.Else1 Inv-loop μ-loop) → c .before .loop .at + c .before .before .geometry-of .result .«entry_size» < 2 ^ 33
 room c =
     let g = c .before .before .geometry-of in
-    omega (arith, entry-below (c .before .before .before .before .args .h) (g .result) (g .ensures) (c .before .loop .i) (omega arith))
+    omega (arith, entry-below (c .before .before .before .before .args .header) (g .result) (g .ensures) (c .before .loop .i) (omega arith))
 
 -- no entry below `i` is wanted, as the definition says it
 passed : (c : tie.At-loop Inv-loop μ-loop) (k : ℕ) → k < c .loop .i
-    → isWanted (c .before .before .before .args .wanted) (c .before .before .before .args .dump .now) (c .before .before .before .args .h) k ≡ false
+    → isWanted (c .before .before .before .args .wanted) (c .before .before .before .args .dump .now) (c .before .before .before .args .header) k ≡ false
 passed c k l = rw (c .before .geometry-of .ensures) at (c .loop .inv .2 k l)
 
 is-wanted-requires : tie.Need-is-wanted-requires Inv-loop μ-loop
@@ -59,16 +59,16 @@ returns c =
     let at = c .before in
     let a = at .before .before .before .args in
     let g = at .before .geometry-of in
-    let all = entries-are (a .h) (g .result) (g .ensures) in
-    all ∙ lowest-none (isWanted (a .wanted) (a .dump .now) (a .h)) (entryCount (a .h)) (λ k l. passed at k (omega arith))
+    let all = entries-are (a .header) (g .result) (g .ensures) in
+    all ∙ lowest-none (isWanted (a .wanted) (a .dump .now) (a .header)) (entryCount (a .header)) (λ k l. passed at k (omega arith))
 
 returns-2 : tie.Need-returns-2 Inv-loop μ-loop
 returns-2 c =
     let at = c .before .before .before in
     let a = at .before .before .before .args in
     let g = at .before .geometry-of in
-    let all = entries-are (a .h) (g .result) (g .ensures) in
-    lowest-at (isWanted (a .wanted) (a .dump .now) (a .h)) (entryCount (a .h)) (at .loop .i) (omega arith) (passed at)
+    let all = entries-are (a .header) (g .result) (g .ensures) in
+    lowest-at (isWanted (a .wanted) (a .dump .now) (a .header)) (entryCount (a .header)) (at .loop .i) (omega arith) (passed at)
     (rw (at .loop .inv .1, g .ensures) at (sym (c .before .is-wanted .ensures) ∙ c .if2 .taken))
 
 pub lowest-entry-spec : {M : Type 1} → statement M
