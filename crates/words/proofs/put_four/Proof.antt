@@ -20,7 +20,8 @@ same-length : tie.Need-same-length
 same-length c = search needs
 
 returns : tie.Need-returns
-returns c = rw store-four (cc)
+returns c =
+    rw store-four (rw (c .before .before .before .before .before .before .put-byte3 .ensures, c .before .before .before .before .before .before .before .before .before .before .put-byte2 .ensures, c .before .before .before .before .before .before .before .before .before .before .before .before .before .before .put-byte .ensures) at (c .before .before .put-byte4 .ensures))
 
 pub put-four-spec : {M : Type 1} → statement M
 put-four-spec =

@@ -22,7 +22,8 @@ four-requires c κs = search needs
 
 returns : tie.Need-returns
 unfolding numberAt
-returns c = rw read-four (cc)
+returns c =
+    rw read-four (rw (c .before .byte4 .ensures, c .before .before .byte3 .ensures, c .before .before .before .byte2 .ensures, c .before .before .before .before .byte .ensures) at (c .four .ensures))
 
 pub word-spec : {M : Type 1} → statement M
 word-spec =

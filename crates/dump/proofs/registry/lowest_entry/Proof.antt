@@ -50,9 +50,10 @@ loop-less c = omega arith
 
 loop-again : tie.Need-loop-again Inv-loop μ-loop
 loop-again c =
-    let l = c .before .before .before .loop in
-    let g = c .before .before .before .before .geometry-of .result in
-    (omega arith, omega (arith, step-more (l .i) (g .«entry_size»)), below-more _ _ (l .inv .2) (cc))
+    let at = c .before .before .before in
+    let g = at .before .geometry-of .result in
+    let miss = sym (c .before .is-wanted .ensures) ∙ c .if2 .left in
+    (omega arith, omega (arith, step-more (at .loop .i) (g .«entry_size»)), below-more _ _ (at .loop .inv .2) (rw (at .loop .inv .1) at miss))
 
 returns : tie.Need-returns Inv-loop μ-loop
 returns c =
