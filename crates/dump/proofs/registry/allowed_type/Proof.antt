@@ -15,7 +15,7 @@ either-requires c κs = search needs
 
 returns : tie.Need-returns
 unfolding isAllowedType
-returns c = cc
+returns c = rw (c .before .both2 .ensures, c .before .before .both .ensures) at (c .either .ensures)
 
 pub allowed-type-spec : {M : Type 1} → statement M
 allowed-type-spec = tie.close (tie.spec both-requires both-requires-2 either-requires returns)

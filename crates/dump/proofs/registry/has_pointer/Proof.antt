@@ -10,7 +10,7 @@ word-requires : tie.Need-word-requires
 word-requires c κs = search needs
 
 returns : tie.Need-returns
-returns c = cc
+returns c = rw (c .word .ensures)
 
 pub has-pointer-spec : {M : Type 1} → statement M
 has-pointer-spec = tie.close (tie.spec add-word word-requires returns)

@@ -9,7 +9,7 @@ byte-requires c κs = search needs
 
 returns : tie.Need-returns
 unfolding isInUse
-returns c = cc
+returns c = rw (c .byte .ensures)
 
 pub in-use-spec : {M : Type 1} → statement M
 in-use-spec = tie.close (tie.spec byte-requires returns)

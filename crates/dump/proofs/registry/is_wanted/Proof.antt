@@ -45,19 +45,22 @@ both-requires-4 c κs = search needs
 
 returns : tie.Need-returns
 unfolding isWantedAt
-returns c = rw (c .before .before .enum-told .given .1) (cc)
+returns c =
+    rw (c .before .before .enum-told .given .1) (rw (c .before .allowed-type .ensures, c .before .before .before .before .byte .ensures, c .before .before .before .before .before .in-use .ensures) at (c .both .ensures))
 
 returns-2 : tie.Need-returns-2
 unfolding isWantedAt
-returns-2 c = rw (c .enum-told2 .given .1) (cc)
+returns-2 c = rw (c .enum-told2 .given .1, c .before .before .before .in-use .ensures)
 
 returns-3 : tie.Need-returns-3
 unfolding isWantedAt
-returns-3 c = rw (c .before .before .before .wanted .given .1) (cc)
+returns-3 c =
+    rw (c .before .before .before .wanted .given .1) (rw (c .before .has-pointer .ensures, c .before .before .before .before .before .before .in-use .ensures) at (c .both2 .ensures))
 
 returns-4 : tie.Need-returns-4
 unfolding isWantedAt
-returns-4 c = rw (c .before .before .before .before .wanted2 .given .1) (cc)
+returns-4 c =
+    rw (c .before .before .before .before .wanted2 .given .1) (rw (c .before .before .both3 .ensures, c .before .has-pointer2 .ensures, c .before .before .before .before .before .before .byte .ensures, c .before .before .before .before .before .before .before .in-use .ensures) at (c .both4 .ensures))
 
 pub is-wanted-spec : {M : Type 1} → statement M
 is-wanted-spec =
