@@ -1,3 +1,4 @@
 pub mod Patterns
+pub mod Pointers
 pub mod Starred
 pub mod Turns

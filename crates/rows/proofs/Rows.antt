@@ -1,7 +1,7 @@
 -- Rows one after another give the first that is broken.
 use mathlib.Core.Bool.{Bool, true, false, cond}
 use mathlib.Core.List.{List, [], _∷_, _++_}
-use mathlib.Core.Path.{_≡_, refl, sym, _∙_}
+use mathlib.Core.Path.{_≡_, refl, sym, ap, _∙_}
 use Rattle.rows.specs.Rows.{Row, refusal, firstBroken, afterRow, afterRows}
 use Rattle.rows.specs.declared.Refusal.{Refusal}
 use Rattle.rows.specs.declared.Verdict.{Verdict}
@@ -36,3 +36,7 @@ module _ (rs more : List Row) where
 
   pub then-more : firstBroken rs ≡ Passed → afterRows Passed more ≡ firstBroken (rs ++ more)
   then-more e = rw e at (in-order rs more)
+
+-- one row more after a verdict that is known
+pub row-after : {v w x : Verdict} (r : Row) → x ≡ afterRow v r → v ≡ w → x ≡ afterRow w r
+row-after r e f = e ∙ ap (λ v. afterRow v r) f
