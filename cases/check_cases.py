@@ -1,8 +1,9 @@
 #!/usr/bin/env python3
 """The dumps on which the program check_cases runs, and what it must print.
 
-Written from document 01 alone: `answer` below reads a dump in Python, and each case says by hand
-what 01 gives. The two must agree, or nothing is written.
+Written from document 01 and not from our code: `answer` below reads a dump in Python. Each named
+case says by hand the refusal, or the number of events where the dump passes, and the two must
+agree, or nothing is written. The seeded dumps have `answer`'s word alone.
 
     check_cases.py          writes data/dumps and stdout of the crate check_cases
     check_cases.py --check  says whether they are as this script makes them
@@ -286,6 +287,48 @@ def order_of_rows():
     case("12 before 13", "12 1", both)
 
 
+class Chance:
+    """Numbers from a seed, the same under every Python."""
+
+    def __init__(self, seed):
+        self.state = seed
+
+    def below(self, count):
+        self.state = (self.state * 6364136223846793005 + 1442695040888963407) % (1 << 64)
+        return (self.state >> 33) % count
+
+    def one(self, *choices):
+        return choices[self.below(len(choices))]
+
+
+def seeded(chance):
+    """A dump that was sound, with up to two things changed."""
+    dump = Dump(chance.below(5), 1 + chance.below(6), 4 + 4 * chance.below(16),
+                chance.one(0, 0x20000000, 0xFFFFFF00, 0xFFFFFFE0))
+    current = chance.below(len(dump.slots))
+    dump.use(*range(chance.one(current, len(dump.slots)))).at(current)
+    for item in dump.entries:
+        item[:2] = [chance.one(0, 1, 2, 255), chance.one(1, 14, 21, 28)]
+    for _ in range(chance.below(3)):
+        kind = chance.one("id", "mask", "name_size", "registry_start", "registry_end", "buffer_start",
+                          "buffer_end", "current", "type", "pointer", "event")
+        slot = dump.slots[chance.below(len(dump.slots))]
+        if kind == "type" and dump.entries:
+            dump.entries[chance.below(len(dump.entries))][1] = chance.below(32)
+        elif kind == "pointer":
+            slot[0] = chance.one(0, 1, 0xFFFFFFFF)
+        elif kind == "event":
+            slot[2] = chance.one(0, 1, 1025)
+        elif kind == "mask":
+            dump.mask ^= 1 << chance.below(32)
+        elif kind == "name_size":
+            dump.name_size = chance.below(72)
+        elif kind != "type":
+            setattr(dump, kind, getattr(dump, kind) + chance.one(-48, -32, -24, -1, 1, 24, 32, 64))
+    dump.tail = bytes(chance.below(256) for _ in range(chance.below(4) * 11))
+    return dump
+
+
 for group in (sound, length, identity, mask, name_size, registry, buffer, types, ring, ids, order_of_rows):
     group()
 
@@ -302,6 +345,13 @@ for order, word in (("<", "little"), (">", "big")):
         title = f"{name}, {word}".encode()
         data += bytes([len(title)]) + title + struct.pack("<I", len(raw)) + raw
         lines.append(f"{name}, {word}: {said}")
+
+chance = Chance(2026)
+for index in range(600):
+    raw = seeded(chance).bytes(chance.one("<", ">"))
+    title = f"seeded {index}".encode()
+    data += bytes([len(title)]) + title + struct.pack("<I", len(raw)) + raw
+    lines.append(f"seeded {index}: {answer(raw)}")
 
 made = {CRATE / "data" / "dumps": bytes(data), CRATE / "stdout": ("\n".join(lines) + "\n").encode()}
 if sys.argv[1:] == ["--check"]:
