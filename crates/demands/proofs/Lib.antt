@@ -1,4 +1,7 @@
+pub mod BareNumbers
 pub mod Patterns
 pub mod Pointers
 pub mod Starred
+pub mod Texts
 pub mod Turns
+pub mod WholeCase

@@ -7,6 +7,9 @@ use Rattle.words.specs.declared.Order.{Order}
 use Rattle.words.specs.declared.Order.the-variants.{Big, Little}
 use Rattle.rows.specs.Lowest.{lowest, count}
 use Rattle.rows.specs.Rows.{firstBroken}
+use Rattle.text.specs.Names.{escape, escaped, hexDigit, isMarked, isPlain}
+use Rattle.text.specs.Numbers.{digits, digitsIn, isBare, number, quoted}
+use Rattle.trace.specs.Times.{microseconds}
 use Rattle.trace.specs.Check.{checkOf}
 use Rattle.trace.specs.Layout.{headerIn, slotSize}
 use Rattle.trace.specs.Registry.{isInUse, isAllowedType, isWantedAt}
@@ -15,6 +18,6 @@ use Rattle.trace.specs.Table.{row1, row2, row3, row4, row5, row6, row7, row8, r
 use Rattle.demands.specs.Starred.{topHeader, headerBytes, topDump, Starred}
 
 pub starred : (o : Order) → Starred o
-unfolding widthTo minus bytesAt lowestFirst joined split numberAt numberBytes lowest count firstBroken checkOf headerIn slotSize isInUse isAllowedType isWantedAt isFault row1 row2 row3 row4 row5 row6 row7 row8 row9 row10 row11 row12 row13 topHeader headerBytes topDump
-starred Big = record { mask-0x1 = refl; mask-0xFFFFFFFF = refl; mask-0 = refl; mask-0x5 = refl; mask-0xFF00 = refl; end-pointer-0 = refl; end-offset-256 = refl }
-starred Little = record { mask-0x1 = refl; mask-0xFFFFFFFF = refl; mask-0 = refl; mask-0x5 = refl; mask-0xFF00 = refl; end-pointer-0 = refl; end-offset-256 = refl }
+unfolding widthTo minus bytesAt lowestFirst joined split numberAt numberBytes lowest count firstBroken checkOf headerIn slotSize isInUse isAllowedType isWantedAt isFault row1 row2 row3 row4 row5 row6 row7 row8 row9 row10 row11 row12 row13 topHeader headerBytes topDump microseconds escape escaped hexDigit isMarked isPlain digits digitsIn isBare number quoted
+starred Big = record { mask-0x1 = refl; mask-0xFFFFFFFF = refl; mask-0 = refl; mask-0x5 = refl; mask-0xFF00 = refl; end-pointer-0 = refl; end-offset-256 = refl; bare-at-9007199254-ticks = refl; quoted-at-9007199255-ticks = refl; name-41-22-0A = refl }
+starred Little = record { mask-0x1 = refl; mask-0xFFFFFFFF = refl; mask-0 = refl; mask-0x5 = refl; mask-0xFF00 = refl; end-pointer-0 = refl; end-offset-256 = refl; bare-at-9007199254-ticks = refl; quoted-at-9007199255-ticks = refl; name-41-22-0A = refl }

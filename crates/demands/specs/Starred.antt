@@ -1,10 +1,14 @@
 -- The starred cases of document 01, in one table.
 use Prim.Native.Nat.{ℕ}
-use mathlib.Core.List.{List, _∷_, _++_}
+use mathlib.Core.List.{List, [], _∷_, _++_}
 use mathlib.Core.Path.{_≡_}
 use lib.ListN.{replicate}
 use Rattle.words.specs.Words.{numberBytes}
 use Rattle.words.specs.declared.Order.{Order}
+use Rattle.text.specs.Ascii.{ascii}
+use Rattle.text.specs.Names.{escaped}
+use Rattle.text.specs.Numbers.{number}
+use Rattle.trace.specs.Times.{microseconds}
 use Rattle.trace.specs.Check.{checkOf}
 use Rattle.trace.specs.Layout.{traceId, bufferEnd}
 use Rattle.trace.specs.declared.Checked.{Checked}
@@ -47,7 +51,7 @@ topDump o mask = headerBytes (topHeader o mask) ++ freeEntry ++ freeEntry ++ fre
 abbrev pub refused : ℕ → Checked
 refused number = Refused (record { number = number; place = 0 })
 
--- one row a case, for either byte order
+-- one row a case, those of dumps for either byte order
 pub record Starred (o : Order) : Type 0 where
   pub mask-0x1 : checkOf (topDump o 0x1) ≡ Sound (topHeader o 0x1) 0
   pub mask-0xFFFFFFFF : checkOf (topDump o 0xFFFFFFFF) ≡ Sound (topHeader o 0xFFFFFFFF) 0
@@ -56,3 +60,6 @@ pub record Starred (o : Order) : Type 0 where
   pub mask-0xFF00 : checkOf (topDump o 0xFF00) ≡ refused 4
   pub end-pointer-0 : checkOf (topDump o 0xFFFF) ≡ Sound (topHeader o 0xFFFF) 0
   pub end-offset-256 : bufferEnd (topHeader o 0xFFFF) ≡ 256
+  pub bare-at-9007199254-ticks : number (microseconds 9007199254 1) ≡ ascii "9007199254000000"
+  pub quoted-at-9007199255-ticks : number (microseconds 9007199255 1) ≡ ascii "\"9007199255000000\""
+  pub name-41-22-0A : escaped (0x41 ∷ 0x22 ∷ 0x0A ∷ []) ≡ ascii "A\\\"\\u000a"

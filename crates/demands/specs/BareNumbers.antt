@@ -1,0 +1,30 @@
+-- Numbers that a line prints bare, and what becomes of them in a browser, which holds a number as a double.
+use Prim.Native.Nat.{ℕ, _^_, _<_}
+use mathlib.Core.Bool.{true, false}
+use mathlib.Core.Path.{_≡_}
+use lib.Ieee.{Float, binary64, ofInt, toUnsigned}
+use lib.Ieee.Exact.{HasValue}
+use lib.IntN.{pos}
+use Rattle.doubles.specs.Doubles.{IsSpacing, Rounded, double, spacing}
+use Rattle.text.specs.Numbers.{isBare}
+
+-- the double that a page gets for the digits of n
+abbrev pub asDouble : ℕ → Float
+asDouble n = ofInt binary64 (pos n)
+
+pub record BareNumbers : Type 0 where
+  -- the double of a whole number is that number rounded to 53 significant bits, ties to even, and the cast's double has that value
+  pub significant : (n : ℕ) → IsSpacing n (spacing n)
+  pub rounded : (n : ℕ) → Rounded n (spacing n) (double n)
+  pub cast : (n : ℕ) → n < 2 ^ 64 → HasValue (asDouble n) false (double n) 1
+  -- a bare number's double is exact, by the rule and as a float, and turns back to the same number
+  pub rule : (n : ℕ) → isBare n ≡ true → double n ≡ n
+  pub exact : (n : ℕ) → isBare n ≡ true → HasValue (asDouble n) false n 1
+  pub back : (n : ℕ) → isBare n ≡ true → toUnsigned 64 (asDouble n) ≡ n
+  -- of two bare numbers, equal doubles mean equal numbers
+  pub apart : (m n : ℕ) → isBare m ≡ true → isBare n ≡ true → asDouble m ≡ asDouble n → m ≡ n
+  -- why the limit is there: the last bare number and the next have one double
+  pub last : isBare 9007199254740992 ≡ true
+  pub next : isBare 9007199254740993 ≡ false
+  pub one-value : double 9007199254740993 ≡ 9007199254740992
+  pub one-double : asDouble 9007199254740993 ≡ asDouble 9007199254740992

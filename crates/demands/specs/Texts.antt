@@ -1,0 +1,28 @@
+-- What is printed, as its reader sees it: it reads back, no two print alike, and 0 says that there was no room.
+use Prim.Native.Nat.{ℕ, _≤_, _<_}
+use mathlib.Core.List.{List, _++_}
+use mathlib.Core.Option.{Option}
+use mathlib.Core.Path.{_≡_}
+use lib.ListN.{length, drop}
+use Rattle.text.specs.Lines.{line}
+use Rattle.text.specs.Names.{name}
+use Rattle.text.specs.Numbers.{number}
+use Rattle.text.specs.Output.{Put, printed}
+use Rattle.text.specs.Reading.{IsName, readName, readNumber}
+use Rattle.text.specs.declared.Line.{Line}
+
+pub record Texts : Type 0 where
+  -- a number's text reads back to the number, bare or quoted, and a name's to the name, or to none
+  pub number-back : (n : ℕ) → readNumber (number n) ≡ n
+  pub name-back : (n : Option (List ℕ)) → IsName n → readName (name n) ≡ n
+  -- so two numbers never print alike, and neither do two names
+  pub numbers-differ : (m n : ℕ) → number m ≡ number n → m ≡ n
+  pub names-differ : (m n : Option (List ℕ)) → IsName m → IsName n → name m ≡ name n → m ≡ n
+  -- no text is empty
+  pub number-some : (n : ℕ) → 1 ≤ length (number n)
+  pub name-some : (n : Option (List ℕ)) → 1 ≤ length (name n)
+  pub line-some : (l : Line) (n : Option (List ℕ)) → 1 ≤ length (line l n)
+  -- so an answer of 0 says that there was no room, and then nothing is written
+  pub no-room : (text old new : List ℕ) (answer : ℕ) → Put (printed text old) old new answer → length old < length text → (answer ≡ 0) × (new ≡ old)
+  pub room : (text old new : List ℕ) (answer : ℕ) → Put (printed text old) old new answer → length text ≤ length old
+      → (answer ≡ length text) × (new ≡ text ++ drop (length text) old)

@@ -1,0 +1,39 @@
+-- `names::put_some` meets its contract: the whole text where there is room, otherwise nothing.
+use Rattle.text.proofs.Output.{put-all, put-none}
+use Rattle.text.specs.Names.{name}
+use borrow.Author.Tests.{leb-true, leb-false}
+use lib.ListN.{length}
+use mathlib.Core.Option.{some}
+use mathlib.Core.Path.{sym, _∙_}
+use borrow.Author.Needs.{needs}
+use Rattle.names.proofs.put_some.Statement.{statement}
+use Rattle.names.proofs.put_some.Tie as tie
+
+has-room-requires : tie.Need-has-room-requires
+has-room-requires c κs = search needs
+
+put-quoted-requires : tie.Need-put-quoted-requires
+put-quoted-requires c κs =
+    let s = c .before .before .before .before .before in
+    leb-true (length (name (some (s .args .bytes .now)))) (length (s .args .out .now)) (sym (c .before .before .has-room .ensures) ∙ c .before .if1 .taken)
+
+same-length : tie.Need-same-length
+same-length c = search needs
+
+returns : tie.Need-returns
+returns c =
+    let s = c .before .before .before .before .before .before .before .before in
+    let text = name (some (s .args .bytes .now)) in
+    let out = s .args .out .now in
+    put-all text out (leb-true (length text) (length out) (sym (c .before .before .before .before .before .has-room .ensures) ∙ c .before .before .before .before .if1 .taken)) (c .before .before .put-quoted .ensures)
+
+returns-2 : tie.Need-returns-2
+returns-2 c =
+    let s = c .before .before .before .before in
+    let text = name (some (s .args .bytes .now)) in
+    let out = s .args .out .now in
+    put-none text out (leb-false (length text) (length out) (sym (c .before .has-room .ensures) ∙ c .if1 .left))
+
+pub put-some-spec : {M : Type 1} → statement M
+put-some-spec =
+    tie.close (tie.spec has-room-requires put-quoted-requires same-length returns returns-2)

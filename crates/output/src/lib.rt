@@ -1,0 +1,29 @@
+// Copies bytes into lent output, and adds up lengths.
+ghost use mathlib.Core.Path.{_≡_};
+ghost use Prim.Native.Nat.{_+_};
+ghost use Rattle.text.specs.Output.{Put, capped, printed};
+
+// The bytes at the front of the output, and their number; nothing, and 0, where there is no room.
+pub fn put_bytes(out: &mut [u8], bytes: &[u8]) -> usize
+    ensures { λ r. ⌜ Put (printed (now (bytes .entry)) (now (out .entry))) (now (out .entry)) (now (out .exit)) r ⌝ }
+{
+    if out.len() < bytes.len() {
+        return 0;
+    }
+    let mut i = 0;
+    while i < bytes.len() {
+        out[i] = bytes[i];
+        i += 1;
+    }
+    i
+}
+
+// a plus b, or the largest usize where that is more.
+pub fn sum(a: usize, b: usize) -> usize
+    ensures { λ r. ⌜ r ≡ capped (a + b) ⌝ }
+{
+    if a > usize::MAX - b {
+        return usize::MAX;
+    }
+    a + b
+}
