@@ -10,7 +10,7 @@ use lib.Ieee.Fits.{ofInt-fits}
 use lib.IntN.{pos}
 use borrow.Author.Tests.{leb-true}
 use Rattle.doubles.specs.Doubles.{double, spacing}
-use Rattle.doubles.proofs.Rule.{double-rounds, spacing-is}
+use Rattle.doubles.proofs.Rule.{double-rounds, one-rounding, spacing-is, spacing-some}
 use Rattle.doubles.proofs.Values.{cast-value, double-same, value-back}
 use Rattle.text.specs.Numbers.{isBare}
 use Rattle.demands.specs.BareNumbers.{BareNumbers, asDouble}
@@ -48,6 +48,7 @@ unfolding isBare
 bare-numbers = record {
   significant = spacing-is;
   rounded = double-rounds;
+  one-rounding = λ n r x. one-rounding n (spacing n) r (double n) (spacing-some n) x (double-rounds n);
   cast = cast-value;
   rule = same;
   exact = exactly;

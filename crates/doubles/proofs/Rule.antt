@@ -1,9 +1,9 @@
--- The rule of doubles without its working: a double is a multiple of the spacing, half of it away at most, and an even multiple at a tie; and 53 bits stand above the spacing.
+-- The rule of doubles without its working: a double is a multiple of the spacing, half of it away at most, and an even multiple at a tie; there is one such number; and 53 bits stand above the spacing.
 use Prim.Native.Nat.{ℕ, suc, _+_, _-_, _*_, _/_, _%_, _^_, _≤_, _<_, compare, Ordering, Ordering·lt, Ordering·eq, Ordering·gt}
 use mathlib.Core.Path.{_≡_, refl, sym, ap, _∙_, subst}
 use mathlib.Core.Bool.{Bool, true, false, not}
-use mathlib.Core.Logic.{inl, inr}
-use native.Mathlib.Nat.{div-add-mod', mod-lt, add-mul, suc-mul, mul-le-mul-right, mul-mod-left, mul-div-cancel}
+use mathlib.Core.Logic.{_⊎_, inl, inr, ⊎-elim}
+use native.Mathlib.Nat.{div-add-mod', eq-or-lt-of-le, lt-of-not-le, mod-eq-of-lt, mod-lt, mul-add-mod-self-right, add-mul, suc-mul, mul-le-mul-right, mul-mod-left, mul-div-cancel}
 use native.Mathlib.Omega.{arith}
 use lib.Dec.{T, isLe, isEq, eqb, ltb, leb→le, nleb→lt, eqb→eq, eqb-refl}
 use lib.Pow.{pow-add, pow-pos, pow-mono}
@@ -42,22 +42,25 @@ closest-rounds n u positive = by-order (compare (n % u * 2) u) (leb→le (n % u 
         let r = mod-lt n positive in
         record { multiple = mul-mod-left (suc q) u; low = omega arith; high = omega arith; even = λ t. absurd (is-tie t) }
 
+pub spacing-some : (n : ℕ) → 0 < spacing n
+unfolding spacing
+spacing-some n = pow-pos (size n - 53)
+
 pub double-rounds : (n : ℕ) → Rounded n (spacing n) (double n)
-unfolding double spacing
-double-rounds n = closest-rounds n (spacing n) (pow-pos (size n - 53))
+unfolding double
+double-rounds n = closest-rounds n (spacing n) (spacing-some n)
 
 -- so many bits above the spacing
 pub spacing-is : (n : ℕ) → IsSpacing n (spacing n)
 unfolding spacing
-spacing-is n = by-size (ltb (size n) 54) refl
+spacing-is n = (size n - 53, refl, by-size (ltb (size n) 54) refl)
   where
-    by-size : (b : Bool) → ltb (size n) 54 ≡ b → IsSpacing n (2 ^ (size n - 53))
+    by-size : (b : Bool) → ltb (size n) 54 ≡ b → ((size n - 53 ≡ 0) × (n < 2 ^ 53)) ⊎ ((2 ^ 52 * 2 ^ (size n - 53) ≤ n) × (n < 2 ^ 53 * 2 ^ (size n - 53)))
     by-size true e =
         let s = ltb-true (size n) 54 e in
-        let none : size n - 53 ≡ 0 = omega arith in
         let most : size n ≤ 53 = omega arith in
         let few : 2 ^ size n ≤ 2 ^ 53 = pow-mono most in
-        inl (ap (λ (k : ℕ). 2 ^ k) none, omega (arith, few, size-lt n))
+        inl (omega arith, omega (arith, few, size-lt n))
     by-size false e =
         let s = ltb-false (size n) 54 e in
         let less : 52 + (size n - 53) < size n = omega arith in
@@ -66,3 +69,41 @@ spacing-is n = by-size (ltb (size n) 54) refl
           subst (λ (x : ℕ). x ≤ n) (pow-add 2 52 (size n - 53)) (size-reaches n (52 + (size n - 53)) less),
           subst (λ (x : ℕ). n < x) (sym (ap (λ (k : ℕ). 2 ^ k) all) ∙ pow-add 2 53 (size n - 53)) (size-lt n),
         )
+
+-- two neighbouring multiples are not both the nearest, for at a tie one of them is odd
+no-neighbour : (n u a : ℕ) → 0 < u → Rounded n u (a * u) → Rounded n u (suc a * u) → ⊥
+no-neighbour n u a positive x y =
+    let next : suc a * u ≡ a * u + u = suc-mul a u in
+    let half : n * 2 ≡ a * u * 2 + u = omega (arith, x .low, y .high) in
+    let split : a * u + (n - a * u) ≡ n = omega arith in
+    let rest : n % u ≡ n - a * u = ap (λ (m : ℕ). m % u) (sym split) ∙ mul-add-mod-self-right a u (n - a * u) ∙ mod-eq-of-lt (omega arith) in
+    let tie : n % u * 2 ≡ u = omega arith in
+    let even : a % 2 ≡ 0 = ap (λ (m : ℕ). m % 2) (sym (mul-div-cancel a positive)) ∙ x .even tie in
+    let odd : suc a % 2 ≡ 0 = ap (λ (m : ℕ). m % 2) (sym (mul-div-cancel (suc a) positive)) ∙ y .even tie in
+    omega arith
+
+-- nor are two that lie further apart
+no-other : (n u a b : ℕ) → 0 < u → a < b → Rounded n u (a * u) → Rounded n u (b * u) → ⊥
+no-other n u a b positive less x y = ⊎-elim beside apart (eq-or-lt-of-le less)
+  where
+    beside : suc a ≡ b → ⊥
+    beside e = no-neighbour n u a positive x (subst (λ (m : ℕ). Rounded n u (m * u)) (sym e) y)
+
+    apart : suc a < b → ⊥
+    apart far =
+        let two : suc (suc a) * u ≤ b * u = mul-le-mul-right u far in
+        let one : suc (suc a) * u ≡ suc a * u + u = suc-mul (suc a) u in
+        let none : suc a * u ≡ a * u + u = suc-mul a u in
+        omega (arith, x .low, y .high)
+
+-- so the rule gives one number
+pub one-rounding : (n u r s : ℕ) → 0 < u → Rounded n u r → Rounded n u s → r ≡ s
+one-rounding n u r s positive x y =
+    let a : r / u * u ≡ r = omega (arith, div-add-mod' r u, x .multiple) in
+    let b : s / u * u ≡ s = omega (arith, div-add-mod' s u, y .multiple) in
+    let first : Rounded n u (r / u * u) = subst (Rounded n u) (sym a) x in
+    let second : Rounded n u (s / u * u) = subst (Rounded n u) (sym b) y in
+    let low : r / u < suc (s / u) = lt-of-not-le (λ less. no-other n u (s / u) (r / u) positive less second first) in
+    let high : s / u < suc (r / u) = lt-of-not-le (λ less. no-other n u (r / u) (s / u) positive less first second) in
+    let same : r / u ≡ s / u = omega arith in
+    sym a ∙ ap (λ (m : ℕ). m * u) same ∙ b

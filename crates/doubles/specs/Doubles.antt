@@ -20,6 +20,6 @@ pub record Rounded (n u r : ℕ) : Type 0 where
   pub high : r * 2 ≤ n * 2 + u
   pub even : n % u * 2 ≡ u → r / u % 2 ≡ 0
 
--- u is what the last of 53 bits counts: 1 where n has no more bits than that, and otherwise n has 53 bits above it
+-- u is what the last of 53 bits counts: a power of two, 1 where n has no more bits than that, and otherwise n has 53 bits above it
 abbrev pub IsSpacing : ℕ → ℕ → Type 0
-IsSpacing n u = ((u ≡ 1) × (n < 2 ^ 53)) ⊎ ((2 ^ 52 * u ≤ n) × (n < 2 ^ 53 * u))
+IsSpacing n u = (k : ℕ) × (u ≡ 2 ^ k) × (((k ≡ 0) × (n < 2 ^ 53)) ⊎ ((2 ^ 52 * u ≤ n) × (n < 2 ^ 53 * u)))
