@@ -1,5 +1,5 @@
 #!/usr/bin/env python3
-"""Says which names a file of Rattle or antt brings in and does not use."""
+"""Says which names a file of Rattle or antt brings in and does not use, or brings in twice."""
 import re
 import sys
 from pathlib import Path
@@ -25,14 +25,18 @@ def used(name, code):
     return all(re.search(rf"(?<!{edge}){re.escape(symbol)}(?!{edge})", code) for symbol in symbols)
 
 
-unused = []
+faults = []
 for path in sorted(p for kind in ("*.antt", "*.rt") for p in ROOT.rglob(kind)):
     text = re.sub(r"^\s*(--|//).*$", "", path.read_text(), flags=re.M)
     imports = [match for match in IMPORT.finditer(text) if match[1] != "pub use"]
     code = IMPORT.sub("", text)
+    seen = set()
     for match in imports:
         for name in names(match[2]):
             if not used(name, code):
-                unused.append(f"{path.relative_to(ROOT.parent)}: {name}")
-print("\n".join(unused), end="\n" if unused else "")
-sys.exit(1 if unused else 0)
+                faults.append(f"{path.relative_to(ROOT.parent)}: {name} is not used")
+            elif name in seen:
+                faults.append(f"{path.relative_to(ROOT.parent)}: {name} is brought in twice")
+            seen.add(name)
+print("\n".join(faults), end="\n" if faults else "")
+sys.exit(1 if faults else 0)

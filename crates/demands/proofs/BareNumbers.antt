@@ -9,9 +9,9 @@ use lib.Ieee.Exact.{HasValue}
 use lib.Ieee.Fits.{ofInt-fits}
 use lib.IntN.{pos}
 use borrow.Author.Tests.{leb-true}
-use Rattle.doubles.specs.Doubles.{double, spacing}
-use Rattle.doubles.proofs.Rule.{double-rounds, one-rounding, spacing-is, spacing-some}
+use Rattle.doubles.proofs.Rule.{double-rounds, one-double, spacing-is}
 use Rattle.doubles.proofs.Values.{cast-value, double-same, value-back}
+use Rattle.doubles.specs.Doubles.{double, spacing}
 use Rattle.text.specs.Numbers.{isBare}
 use Rattle.demands.specs.BareNumbers.{BareNumbers, asDouble}
 
@@ -48,7 +48,7 @@ unfolding isBare
 bare-numbers = record {
   significant = spacing-is;
   rounded = double-rounds;
-  one-rounding = λ n r x. one-rounding n (spacing n) r (double n) (spacing-some n) x (double-rounds n);
+  no-other = one-double;
   cast = cast-value;
   rule = same;
   exact = exactly;

@@ -5,12 +5,12 @@ use mathlib.Core.List.{List}
 use mathlib.Core.Path.{_≡_, sym, ap, _∙_}
 use lib.Dec.{eqb}
 use borrow.Author.Tests.{ne-eqb}
+use Rattle.trace.specs.Layout.{traceId, headerIn}
+use Rattle.trace.specs.Table.{row3}
 use Rattle.words.proofs.Laws.{read-bytes}
 use Rattle.words.specs.Words.{AreBytes, bytesAt, lowestFirst, joined, split, numberAt, numberBytes, wordAt}
 use Rattle.words.specs.declared.Order.{Order}
 use Rattle.words.specs.declared.Order.the-variants.{Big, Little}
-use Rattle.trace.specs.Layout.{traceId, headerIn}
-use Rattle.trace.specs.Table.{row3}
 use Rattle.demands.specs.Patterns.{Patterns}
 
 -- an id that reads right has that order's bytes

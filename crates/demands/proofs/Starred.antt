@@ -1,20 +1,20 @@
 -- The starred cases hold: each computes.
 use mathlib.Core.Path.{refl}
-use Rattle.words.specs.Masks.{widthTo}
-use Rattle.words.specs.Offsets.{minus}
-use Rattle.words.specs.Words.{bytesAt, lowestFirst, joined, split, numberAt, numberBytes}
-use Rattle.words.specs.declared.Order.{Order}
-use Rattle.words.specs.declared.Order.the-variants.{Big, Little}
 use Rattle.rows.specs.Lowest.{lowest, count}
 use Rattle.rows.specs.Rows.{firstBroken}
 use Rattle.text.specs.Names.{escape, escaped, hexDigit, isMarked, isPlain}
 use Rattle.text.specs.Numbers.{digits, digitsIn, isBare, number, quoted}
-use Rattle.trace.specs.Times.{microseconds}
 use Rattle.trace.specs.Check.{checkOf}
 use Rattle.trace.specs.Layout.{headerIn, slotSize}
 use Rattle.trace.specs.Registry.{isInUse, isAllowedType, isWantedAt}
 use Rattle.trace.specs.Slots.{isFault}
 use Rattle.trace.specs.Table.{row1, row2, row3, row4, row5, row6, row7, row8, row9, row10, row11, row12, row13}
+use Rattle.trace.specs.Times.{microseconds}
+use Rattle.words.specs.Masks.{widthTo}
+use Rattle.words.specs.Offsets.{minus}
+use Rattle.words.specs.Words.{bytesAt, lowestFirst, joined, split, numberAt, numberBytes}
+use Rattle.words.specs.declared.Order.{Order}
+use Rattle.words.specs.declared.Order.the-variants.{Big, Little}
 use Rattle.demands.specs.Starred.{topHeader, headerBytes, topDump, Starred}
 
 pub starred : (o : Order) → Starred o

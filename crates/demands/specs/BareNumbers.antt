@@ -13,10 +13,10 @@ abbrev pub asDouble : ℕ → Float
 asDouble n = ofInt binary64 (pos n)
 
 pub record BareNumbers : Type 0 where
-  -- the double of a whole number is that number rounded to 53 significant bits, ties to even, and the cast's double has that value
+  -- the double of a whole number is that number rounded to 53 significant bits, ties to even; no other number is; and the cast's double has that value
   pub significant : (n : ℕ) → IsSpacing n (spacing n)
   pub rounded : (n : ℕ) → Rounded n (spacing n) (double n)
-  pub one-rounding : (n r : ℕ) → Rounded n (spacing n) r → r ≡ double n
+  pub no-other : (n u r : ℕ) → IsSpacing n u → Rounded n u r → r ≡ double n
   pub cast : (n : ℕ) → n < 2 ^ 64 → HasValue (asDouble n) false (double n) 1
   -- a bare number's double is exact, by the rule and as a float, and turns back to the same number
   pub rule : (n : ℕ) → isBare n ≡ true → double n ≡ n

@@ -3,10 +3,10 @@ use Prim.Native.Nat.{ℕ}
 use mathlib.Core.Bool.{true, false}
 use mathlib.Core.List.{List, [], _∷_}
 use mathlib.Core.Path.{_≡_}
-use Rattle.words.specs.Words.{bytesAt}
-use Rattle.words.specs.declared.Order.the-variants.{Big, Little}
 use Rattle.trace.specs.Layout.{orderOf, headerOf}
 use Rattle.trace.specs.Table.{row3}
+use Rattle.words.specs.Words.{bytesAt}
+use Rattle.words.specs.declared.Order.the-variants.{Big, Little}
 
 abbrev pub bigPattern : List ℕ
 bigPattern = 0x54 ∷ 0x58 ∷ 0x54 ∷ 0x42 ∷ []

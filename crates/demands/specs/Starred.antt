@@ -3,17 +3,17 @@ use Prim.Native.Nat.{ℕ}
 use mathlib.Core.List.{List, [], _∷_, _++_}
 use mathlib.Core.Path.{_≡_}
 use lib.ListN.{replicate}
-use Rattle.words.specs.Words.{numberBytes}
-use Rattle.words.specs.declared.Order.{Order}
 use Rattle.text.specs.Ascii.{ascii}
 use Rattle.text.specs.Names.{escaped}
 use Rattle.text.specs.Numbers.{number}
-use Rattle.trace.specs.Times.{microseconds}
 use Rattle.trace.specs.Check.{checkOf}
 use Rattle.trace.specs.Layout.{traceId, bufferEnd}
+use Rattle.trace.specs.Times.{microseconds}
 use Rattle.trace.specs.declared.Checked.{Checked}
 use Rattle.trace.specs.declared.Checked.the-variants.{Refused, Sound}
 use Rattle.trace.specs.declared.Header.{Header}
+use Rattle.words.specs.Words.{numberBytes}
+use Rattle.words.specs.declared.Order.{Order}
 
 -- the header of a buffer that ends at the top of memory: base 0xFFFFFF00, name size 4, four entries, four slots
 unfoldable pub topHeader : Order → ℕ → Header

@@ -6,12 +6,14 @@ use mathlib.Core.Path.{_≡_}
 use lib.ListN.{length, drop}
 use Rattle.text.specs.Lines.{line}
 use Rattle.text.specs.Names.{name}
-use Rattle.text.specs.Numbers.{number}
+use Rattle.text.specs.Numbers.{digits, number}
 use Rattle.text.specs.Output.{Put, printed}
-use Rattle.text.specs.Reading.{IsName, readName, readNumber}
+use Rattle.text.specs.Reading.{IsInteger, IsName, readName, readNumber}
 use Rattle.text.specs.declared.Line.{Line}
 
 pub record Texts : Type 0 where
+  -- digits are an integer of JSON
+  pub digits-integer : (n : ℕ) → IsInteger (digits n)
   -- a number's text reads back to the number, bare or quoted, and a name's to the name, or to none
   pub number-back : (n : ℕ) → readNumber (number n) ≡ n
   pub name-back : (n : Option (List ℕ)) → IsName n → readName (name n) ≡ n
@@ -22,7 +24,8 @@ pub record Texts : Type 0 where
   pub number-some : (n : ℕ) → 1 ≤ length (number n)
   pub name-some : (n : Option (List ℕ)) → 1 ≤ length (name n)
   pub line-some : (l : Line) (n : Option (List ℕ)) → 1 ≤ length (line l n)
-  -- so an answer of 0 says that there was no room, and then nothing is written
+  -- so an answer of 0 says that there was no room, and without room nothing is written
+  pub zero-said : (text old new : List ℕ) → 1 ≤ length text → Put (printed text old) old new 0 → length old < length text
   pub no-room : (text old new : List ℕ) (answer : ℕ) → Put (printed text old) old new answer → length old < length text → (answer ≡ 0) × (new ≡ old)
   pub room : (text old new : List ℕ) (answer : ℕ) → Put (printed text old) old new answer → length text ≤ length old
       → (answer ≡ length text) × (new ≡ text ++ drop (length text) old)

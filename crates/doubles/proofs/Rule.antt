@@ -1,15 +1,15 @@
 -- The rule of doubles without its working: a double is a multiple of the spacing, half of it away at most, and an even multiple at a tie; there is one such number; and 53 bits stand above the spacing.
 use Prim.Native.Nat.{ℕ, suc, _+_, _-_, _*_, _/_, _%_, _^_, _≤_, _<_, compare, Ordering, Ordering·lt, Ordering·eq, Ordering·gt}
-use mathlib.Core.Path.{_≡_, refl, sym, ap, _∙_, subst}
 use mathlib.Core.Bool.{Bool, true, false, not}
 use mathlib.Core.Logic.{_⊎_, inl, inr, ⊎-elim}
-use native.Mathlib.Nat.{div-add-mod', eq-or-lt-of-le, lt-of-not-le, mod-eq-of-lt, mod-lt, mul-add-mod-self-right, add-mul, suc-mul, mul-le-mul-right, mul-mod-left, mul-div-cancel}
+use mathlib.Core.Path.{_≡_, refl, sym, ap, _∙_, subst}
+use native.Mathlib.Nat.{div-add-mod', eq-or-lt-of-le, le-antisymm, lt-of-le-of-lt, lt-of-not-le, not-le-of-lt, mod-eq-of-lt, mod-lt, mul-add-mod-self-right, add-mul, suc-mul, mul-le-mul-right, mul-mod-left, mul-div-cancel}
 use native.Mathlib.Omega.{arith}
 use lib.Dec.{T, isLe, isEq, eqb, ltb, leb→le, nleb→lt, eqb→eq, eqb-refl}
-use lib.Pow.{pow-add, pow-pos, pow-mono}
 use lib.Ieee.{nearest, size}
 use lib.Ieee.Digits.{size-lt, size-reaches}
 use lib.Ieee.Nearest.{closest}
+use lib.Pow.{pow-add, pow-pos, pow-mono}
 use borrow.Author.Tests.{ltb-true, ltb-false}
 use Rattle.doubles.specs.Doubles.{IsSpacing, Rounded, double, spacing}
 
@@ -42,7 +42,7 @@ closest-rounds n u positive = by-order (compare (n % u * 2) u) (leb→le (n % u 
         let r = mod-lt n positive in
         record { multiple = mul-mod-left (suc q) u; low = omega arith; high = omega arith; even = λ t. absurd (is-tie t) }
 
-pub spacing-some : (n : ℕ) → 0 < spacing n
+spacing-some : (n : ℕ) → 0 < spacing n
 unfolding spacing
 spacing-some n = pow-pos (size n - 53)
 
@@ -97,7 +97,7 @@ no-other n u a b positive less x y = ⊎-elim beside apart (eq-or-lt-of-le less)
         omega (arith, x .low, y .high)
 
 -- so the rule gives one number
-pub one-rounding : (n u r s : ℕ) → 0 < u → Rounded n u r → Rounded n u s → r ≡ s
+one-rounding : (n u r s : ℕ) → 0 < u → Rounded n u r → Rounded n u s → r ≡ s
 one-rounding n u r s positive x y =
     let a : r / u * u ≡ r = omega (arith, div-add-mod' r u, x .multiple) in
     let b : s / u * u ≡ s = omega (arith, div-add-mod' s u, y .multiple) in
@@ -107,3 +107,26 @@ one-rounding n u r s positive x y =
     let high : s / u < suc (r / u) = lt-of-not-le (λ less. no-other n u (r / u) (s / u) positive less first second) in
     let same : r / u ≡ s / u = omega arith in
     sym a ∙ ap (λ (m : ℕ). m * u) same ∙ b
+
+-- powers of two grow with their exponents
+exponent-below : (j k : ℕ) → 2 ^ j < 2 ^ k → j < k
+exponent-below j k h = lt-of-not-le (λ (le : k ≤ j). not-le-of-lt h (pow-mono le))
+
+-- n has bits enough above the one spacing and not too many above the other
+exponent-most : (n j k : ℕ) → 2 ^ 52 * 2 ^ j ≤ n → n < 2 ^ 53 * 2 ^ k → j ≤ k
+exponent-most n j k low high =
+    let below : 2 ^ (52 + j) < 2 ^ (53 + k) = rw (pow-add 2 52 j, pow-add 2 53 k) (lt-of-le-of-lt low high) in
+    omega (arith, exponent-below (52 + j) (53 + k) below)
+
+no-wider : (n j k u v : ℕ) → u ≡ 2 ^ j → v ≡ 2 ^ k → ((j ≡ 0) × (n < 2 ^ 53)) ⊎ ((2 ^ 52 * u ≤ n) × (n < 2 ^ 53 * u)) → ((k ≡ 0) × (n < 2 ^ 53)) ⊎ ((2 ^ 52 * v ≤ n) × (n < 2 ^ 53 * v)) → j ≤ k
+no-wider n j k u v p q (inl x) y = omega (arith, x .0)
+no-wider n j k u v p q (inr x) (inl y) = omega (arith, exponent-most n j 0 (rw p at (x .0)) (y .1))
+no-wider n j k u v p q (inr x) (inr y) = exponent-most n j k (rw p at (x .0)) (rw q at (y .1))
+
+-- so a number has one spacing
+one-spacing : (n u v : ℕ) → IsSpacing n u → IsSpacing n v → u ≡ v
+one-spacing n u v (j, p, x) (k, q, y) = p ∙ ap (λ (e : ℕ). 2 ^ e) (le-antisymm (no-wider n j k u v p q x y) (no-wider n k j v u q p y x)) ∙ sym q
+
+-- and the whole rule gives one number, the double
+pub one-double : (n u r : ℕ) → IsSpacing n u → Rounded n u r → r ≡ double n
+one-double n u r is rounded = one-rounding n (spacing n) r (double n) (spacing-some n) (subst (λ (v : ℕ). Rounded n v r) (one-spacing n u (spacing n) is (spacing-is n)) rounded) (double-rounds n)

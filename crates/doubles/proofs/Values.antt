@@ -1,12 +1,10 @@
 -- The float that a whole number of 64 bits is cast to has the value that the rule gives; and what such a float gives back.
 use Prim.Native.Nat.{ℕ, suc, _+_, _-_, _*_, _/_, _^_, _≤_, _<_, min, compare}
-use mathlib.Core.Path.{_≡_, refl, sym, ap, ap₂, _∙_, subst}
 use mathlib.Core.Bool.{Bool, true, false, not, true≢false}
+use mathlib.Core.Path.{_≡_, refl, sym, ap, ap₂, _∙_, subst}
 use native.Mathlib.Nat.{le-trans, le-of-eq, le-of-lt, lt-of-lt-of-le, lt-of-not-le, not-le-of-lt, mul-one, one-mul, mul-assoc, mul-right-comm, mul-le-mul-right, eq-of-mul-eq-mul-right, div-one, mod-one, mul-div-cancel, le-of-mul-le-mul-right}
 use native.Mathlib.Omega.{arith}
 use lib.Dec.{T, leb, lit<, lit≤, lt→ltb, le→leb, leb→le, nleb→lt}
-use lib.IntN.{pos}
-use lib.Pow.{pow-add, pow-pos, pow-mono, shl-lt}
 use lib.Ieee.{Float, nan, inf, fin, Format, binary64, inFloat, prec, emax, low, up, down, size, round, ofInt, toUnsigned, lt, nearest}
 use lib.Ieee.Back.{round-whole}
 use lib.Ieee.Digits.{size-lt, size-le, size-reaches}
@@ -14,6 +12,8 @@ use lib.Ieee.Exact.{HasValue}
 use lib.Ieee.Fits.{down-pos}
 use lib.Ieee.Nearest.{closest, closest-same}
 use lib.Ieee.Scale.{grid, overflow, round-val}
+use lib.IntN.{pos}
+use lib.Pow.{pow-add, pow-pos, pow-mono, shl-lt}
 use borrow.Author.Tests.{ltb-false}
 use Rattle.doubles.specs.Doubles.{double, spacing}
 use Rattle.doubles.proofs.Rule.{double-rounds}

@@ -1,7 +1,7 @@
 -- The double of a whole number: that number rounded to 53 significant bits, ties to even.
 use Prim.Native.Nat.{ℕ, _+_, _-_, _*_, _/_, _%_, _^_, _≤_, _<_}
-use mathlib.Core.Path.{_≡_}
 use mathlib.Core.Logic.{_⊎_}
+use mathlib.Core.Path.{_≡_}
 use lib.Ieee.{size}
 use lib.Ieee.Nearest.{closest}
 

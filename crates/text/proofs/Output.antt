@@ -1,8 +1,8 @@
 -- Laws of writes: into the rest of the output, one after another, by stores; and of what is printed.
 use Prim.Native.Nat.{ℕ, suc, _+_, _-_, _^_, _≤_, _<_, zero-le}
-use mathlib.Core.Path.{_≡_, refl, sym, ap, _∙_}
 use mathlib.Core.Bool.{Bool, true, false}
 use mathlib.Core.List.{List, [], _++_, append-assoc, append-nil}
+use mathlib.Core.Path.{_≡_, refl, sym, ap, _∙_}
 use native.Mathlib.Nat.{zero-add, add-zero, add-assoc}
 use native.Mathlib.Numerals.{add-one}
 use native.Mathlib.Omega.{arith}
@@ -85,6 +85,11 @@ then a b {at} {i} {j} {old} {mid} {new} fits first second = record { end = secon
 
     whole : new ≡ take at old ++ (a ++ b) ++ drop (at + length (a ++ b)) old
     whole = second .bytes ∙ rw (front, ← drop-drop (length b) i mid, rest, drop-drop, length-append, add-assoc) (simp append-assoc)
+
+-- and so are five, as a line's parts are written
+pub five : {a b c d e : List ℕ} {at i j k l m : ℕ} {old o₁ o₂ o₃ o₄ new : List ℕ} → at ≤ length old
+    → Wrote at a old o₁ i → Wrote i b o₁ o₂ j → Wrote j c o₂ o₃ k → Wrote k d o₃ o₄ l → Wrote l e o₄ new m → Wrote at (a ++ b ++ c ++ d ++ e) old new m
+five fits first second third fourth fifth = then _ _ fits (then _ _ fits (then _ _ fits (then _ _ fits first second) third) fourth) fifth
 
 -- a text put before another that is there already
 pub ahead : (a b : List ℕ) {at i j : ℕ} {old mid new : List ℕ} → i ≤ length old → Wrote i b old mid j → Wrote at a mid new i → Wrote at (a ++ b) old new j

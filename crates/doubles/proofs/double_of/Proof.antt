@@ -1,17 +1,11 @@
 -- `doubles::double_of` meets its contract: both ways to the double give the cast's, whose value is the rule's.
-use Rattle.doubles.proofs.Values.{cast-value, in-range}
-use Rattle.doubles.specs.Doubles.{double}
-use lib.Ieee.Exact.{HasValue}
-use lib.Ieee.{Float}
 use mathlib.Core.Bool.{false}
 use mathlib.Core.Path.{refl, sym, subst}
-use Rattle.doubles.proofs.Values.{cast-value, in-range}
-use Rattle.doubles.specs.Doubles.{double}
-use lib.Ieee.Exact.{HasValue}
 use lib.Ieee.{Float}
-use mathlib.Core.Bool.{false}
-use mathlib.Core.Path.{sym, subst}
+use lib.Ieee.Exact.{HasValue}
 use borrow.Author.Needs.{needs}
+use Rattle.doubles.specs.Doubles.{double}
+use Rattle.doubles.proofs.Values.{cast-value, in-range}
 use Rattle.doubles.proofs.double_of.Statement.{statement}
 use Rattle.doubles.proofs.double_of.Tie as tie
 

@@ -1,7 +1,7 @@
 -- `doubles::exact_back` meets its contract: up to two to the fifty-third both casts lose nothing.
-use Rattle.doubles.proofs.Values.{in-range}
-use lib.Ieee.Back.{unsigned-back}
 use lib.Ieee.{binary64}
+use lib.Ieee.Back.{unsigned-back}
+use Rattle.doubles.proofs.Values.{in-range}
 use Rattle.doubles.proofs.exact_back.Statement.{statement}
 use Rattle.doubles.proofs.exact_back.Tie as tie
 

@@ -1,10 +1,10 @@
 -- `doubles::rounded_back` meets its contract: the double's value comes back, brought down where it is two to the 64.
-use Rattle.doubles.proofs.Values.{value-back, above-minus-one, too-large}
-use lib.Dec.{T}
-use lib.Ieee.{ofBits}
 use mathlib.Core.Path.{sym, subst, _∙_}
 use native.Mathlib.Omega.{arith}
+use lib.Dec.{T}
+use lib.Ieee.{ofBits}
 use borrow.Author.Needs.{needs}
+use Rattle.doubles.proofs.Values.{value-back, above-minus-one, too-large}
 use Rattle.doubles.proofs.rounded_back.Statement.{statement}
 use Rattle.doubles.proofs.rounded_back.Tie as tie
 

@@ -1,9 +1,7 @@
 -- `doubles::through_double` meets its contract: up to the limit a number is its own double.
-use Rattle.doubles.proofs.Values.{double-same}
-use native.Mathlib.Omega.{arith}
-use Rattle.doubles.proofs.Values.{double-same}
 use native.Mathlib.Omega.{arith}
 use borrow.Author.Needs.{needs}
+use Rattle.doubles.proofs.Values.{double-same}
 use Rattle.doubles.proofs.through_double.Statement.{statement}
 use Rattle.doubles.proofs.through_double.Tie as tie
 

@@ -1,13 +1,13 @@
 -- `names::escaped_length` meets its contract: the length of the bytes so far, then that of the next.
 use Prim.Native.Nat.{_-_, _≤_}
+use mathlib.Core.Path.{_≡_, refl}
+use native.Mathlib.Omega.{arith}
+use lib.ListN.{length, length-append, take}
+use lib.Seq.{take-all}
+use borrow.Author.Needs.{needs}
 use Rattle.text.proofs.Escapes.{escaped-next}
 use Rattle.text.specs.Names.{escaped}
 use Rattle.text.specs.Output.{capped}
-use lib.ListN.{length, length-append, take}
-use lib.Seq.{take-all}
-use mathlib.Core.Path.{_≡_, refl}
-use native.Mathlib.Omega.{arith}
-use borrow.Author.Needs.{needs}
 use Rattle.names.proofs.escaped_length.Statement.{statement}
 use Rattle.names.proofs.escaped_length.Tie as tie
 

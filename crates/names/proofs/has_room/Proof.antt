@@ -1,14 +1,14 @@
 -- `names::has_room` meets its contract: six bytes for each of the name's are plenty.
-use Rattle.text.proofs.Escapes.{count-name, escaped-short, name-some}
-use Rattle.text.proofs.Output.{leb-capped}
-use Rattle.text.specs.Names.{name}
-use borrow.Author.Tests.{le-leb}
-use lib.ListN.{length}
 use mathlib.Core.Bool.{true}
 use mathlib.Core.Option.{some}
 use mathlib.Core.Path.{refl, sym}
 use native.Mathlib.Omega.{arith}
+use lib.ListN.{length}
 use borrow.Author.Needs.{needs}
+use borrow.Author.Tests.{le-leb}
+use Rattle.text.proofs.Escapes.{count-name, escaped-short, name-some}
+use Rattle.text.proofs.Output.{leb-capped}
+use Rattle.text.specs.Names.{name}
 use Rattle.names.proofs.has_room.Statement.{statement}
 use Rattle.names.proofs.has_room.Tie as tie
 

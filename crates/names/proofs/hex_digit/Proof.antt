@@ -1,8 +1,8 @@
 -- `names::hex_digit` meets its contract: a numeral, or a letter from a on.
-use Rattle.text.specs.Names.{hexDigit}
 use mathlib.Core.Path.{refl}
-use borrow.Author.Tests.{le-ltb, lt-ltb}
 use borrow.Author.Needs.{needs}
+use borrow.Author.Tests.{le-ltb, lt-ltb}
+use Rattle.text.specs.Names.{hexDigit}
 use Rattle.names.proofs.hex_digit.Statement.{statement}
 use Rattle.names.proofs.hex_digit.Tie as tie
 

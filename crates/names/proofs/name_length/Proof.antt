@@ -1,8 +1,8 @@
 -- `names::name_length` meets its contract: the escaped bytes, and two quotes.
-use Rattle.text.proofs.Escapes.{count-name, name-none, name-some}
 use mathlib.Core.Path.{refl}
 use native.Mathlib.Omega.{arith}
 use borrow.Author.Needs.{needs}
+use Rattle.text.proofs.Escapes.{count-name, name-none, name-some}
 use Rattle.names.proofs.name_length.Statement.{statement}
 use Rattle.names.proofs.name_length.Tie as tie
 

@@ -1,10 +1,10 @@
 -- `names::put_escape` meets its contract: the length of a byte's text tells its kind.
-use Rattle.text.proofs.Escapes.{more-bytes, one-byte, two-bytes}
-use Rattle.text.proofs.Output.{stores}
 use mathlib.Core.List.{[], _∷_}
 use mathlib.Core.Path.{sym, _∙_}
 use native.Mathlib.Omega.{arith}
 use borrow.Author.Needs.{needs}
+use Rattle.text.proofs.Escapes.{more-bytes, one-byte, two-bytes}
+use Rattle.text.proofs.Output.{stores}
 use Rattle.names.proofs.put_escape.Statement.{statement}
 use Rattle.names.proofs.put_escape.Tie as tie
 

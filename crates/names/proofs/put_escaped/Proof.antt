@@ -1,14 +1,14 @@
 -- `names::put_escaped` meets its contract: the text of the bytes so far, then that of the next into the rest.
 use Prim.Native.Nat.{_-_, _≤_}
+use mathlib.Core.Path.{_≡_, refl}
+use native.Mathlib.Omega.{arith}
+use lib.ListN.{length, take}
+use lib.Seq.{take-all}
+use borrow.Author.Needs.{needs}
 use Rattle.text.proofs.Escapes.{escaped-fits, escaped-front, escaped-next}
 use Rattle.text.proofs.Output.{on-from}
 use Rattle.text.specs.Names.{escaped}
 use Rattle.text.specs.Output.{Put}
-use lib.ListN.{length, take}
-use lib.Seq.{take-all}
-use mathlib.Core.Path.{_≡_, refl}
-use native.Mathlib.Omega.{arith}
-use borrow.Author.Needs.{needs}
 use Rattle.names.proofs.put_escaped.Statement.{statement}
 use Rattle.names.proofs.put_escaped.Tie as tie
 

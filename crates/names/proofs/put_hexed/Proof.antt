@@ -1,9 +1,9 @@
 -- `names::put_hexed` meets its contract: six stores.
+use native.Mathlib.Omega.{arith}
+use lib.ListN.{length-set}
+use borrow.Author.Needs.{needs}
 use Rattle.text.proofs.Output.{stores}
 use Rattle.text.specs.Names.{hexed}
-use lib.ListN.{length-set}
-use native.Mathlib.Omega.{arith}
-use borrow.Author.Needs.{needs}
 use Rattle.names.proofs.put_hexed.Statement.{statement}
 use Rattle.names.proofs.put_hexed.Tie as tie
 

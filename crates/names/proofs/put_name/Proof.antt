@@ -1,6 +1,6 @@
 -- `names::put_name` meets its contract: the name, or null.
-use Rattle.text.proofs.Escapes.{name-none, name-some}
 use borrow.Author.Needs.{needs}
+use Rattle.text.proofs.Escapes.{name-none, name-some}
 use Rattle.names.proofs.put_name.Statement.{statement}
 use Rattle.names.proofs.put_name.Tie as tie
 

@@ -1,11 +1,11 @@
 -- `names::put_quoted` meets its contract: a quote, the escaped bytes, a quote, each into the rest.
+use native.Mathlib.Omega.{arith}
+use borrow.Author.Needs.{needs}
 use Rattle.text.proofs.Escapes.{count-name}
 use Rattle.text.proofs.Output.{at-most, is-put, on-from, on-to}
 use Rattle.text.specs.Ascii.{ascii}
 use Rattle.text.specs.Names.{name}
 use Rattle.text.specs.Numbers.{quoted}
-use native.Mathlib.Omega.{arith}
-use borrow.Author.Needs.{needs}
 use Rattle.names.proofs.put_quoted.Statement.{statement}
 use Rattle.names.proofs.put_quoted.Tie as tie
 

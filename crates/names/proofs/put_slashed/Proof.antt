@@ -1,7 +1,7 @@
 -- `names::put_slashed` meets its contract: two stores.
+use borrow.Author.Needs.{needs}
 use Rattle.text.proofs.Output.{stores}
 use Rattle.text.specs.Names.{slashed}
-use borrow.Author.Needs.{needs}
 use Rattle.names.proofs.put_slashed.Statement.{statement}
 use Rattle.names.proofs.put_slashed.Tie as tie
 

@@ -1,11 +1,11 @@
 -- `names::put_some` meets its contract: the whole text where there is room, otherwise nothing.
-use Rattle.text.proofs.Output.{put-all, put-none}
-use Rattle.text.specs.Names.{name}
-use borrow.Author.Tests.{leb-true, leb-false}
-use lib.ListN.{length}
 use mathlib.Core.Option.{some}
 use mathlib.Core.Path.{sym, _∙_}
+use lib.ListN.{length}
 use borrow.Author.Needs.{needs}
+use borrow.Author.Tests.{leb-true, leb-false}
+use Rattle.text.proofs.Output.{put-all, put-none}
+use Rattle.text.specs.Names.{name}
 use Rattle.names.proofs.put_some.Statement.{statement}
 use Rattle.names.proofs.put_some.Tie as tie
 

@@ -1,12 +1,12 @@
 -- `numbers::count_from` meets its contract: each power of ten passed is a digit more.
 use Prim.Native.Nat.{ℕ, _+_, _*_, _^_, _≤_, _<_}
-use Rattle.text.proofs.Digits.{count-is}
-use Rattle.text.specs.Numbers.{digits}
-use lib.ListN.{length}
-use lib.Pow.{pow-add}
 use mathlib.Core.Logic.{inr}
 use mathlib.Core.Path.{_≡_, sym, ap, _∙_}
 use native.Mathlib.Omega.{arith}
+use lib.ListN.{length}
+use lib.Pow.{pow-add}
+use Rattle.text.proofs.Digits.{count-is}
+use Rattle.text.specs.Numbers.{digits}
 use Rattle.numbers.proofs.count_from.Statement.{statement}
 use Rattle.numbers.proofs.count_from.Tie as tie
 

@@ -1,6 +1,6 @@
 -- `numbers::is_bare` meets its contract: its test is the definition's.
-use Rattle.text.specs.Numbers.{isBare}
 use mathlib.Core.Path.{refl}
+use Rattle.text.specs.Numbers.{isBare}
 use Rattle.numbers.proofs.is_bare.Statement.{statement}
 use Rattle.numbers.proofs.is_bare.Tie as tie
 

@@ -1,8 +1,8 @@
 -- `numbers::number_length` meets its contract: the digits, and two more for quotes.
-use Rattle.text.proofs.Digits.{number-bare, count-quoted, count-word}
 use mathlib.Core.Path.{sym, _∙_}
 use native.Mathlib.Omega.{arith}
 use borrow.Author.Needs.{needs}
+use Rattle.text.proofs.Digits.{number-bare, count-quoted, count-word}
 use Rattle.numbers.proofs.number_length.Statement.{statement}
 use Rattle.numbers.proofs.number_length.Tie as tie
 

@@ -1,14 +1,14 @@
 -- `numbers::put_digits` meets its contract: what is written stands where it belongs, and the digits of what is left go before it.
 use Prim.Native.Nat.{ℕ, _+_, _≤_, _/_, _%_, _-_}
+use mathlib.Core.List.{List, [], _++_, append-nil, append-assoc}
+use mathlib.Core.Path.{_≡_, refl, sym, _∙_}
+use native.Mathlib.Omega.{arith}
+use lib.ListN.{length}
 use borrow.Author.Needs.{needs}
 use Rattle.text.proofs.Digits.{count-myriad, digits-myriad}
 use Rattle.text.proofs.Output.{ahead, from-start, in-rest, to-start, wrote-nothing}
 use Rattle.text.specs.Numbers.{digits, pair}
 use Rattle.text.specs.Output.{Wrote}
-use lib.ListN.{length}
-use mathlib.Core.List.{List, [], _++_, append-nil, append-assoc}
-use mathlib.Core.Path.{_≡_, refl, sym, _∙_}
-use native.Mathlib.Omega.{arith}
 use Rattle.numbers.proofs.put_digits.Statement.{statement}
 use Rattle.numbers.proofs.put_digits.Tie as tie
 

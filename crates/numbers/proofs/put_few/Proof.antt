@@ -1,8 +1,8 @@
 -- `numbers::put_few` meets its contract: two digits at most, or such and a pair into the rest.
-use Rattle.text.proofs.Digits.{count-hundred, digits-hundred}
-use Rattle.text.proofs.Output.{on-from}
 use native.Mathlib.Omega.{arith}
 use borrow.Author.Needs.{needs}
+use Rattle.text.proofs.Digits.{count-hundred, digits-hundred}
+use Rattle.text.proofs.Output.{on-from}
 use Rattle.numbers.proofs.put_few.Statement.{statement}
 use Rattle.numbers.proofs.put_few.Tie as tie
 

@@ -1,6 +1,6 @@
 -- `numbers::put_four` meets its contract: a pair, and a pair into the rest.
-use Rattle.text.proofs.Output.{on-from}
 use borrow.Author.Needs.{needs}
+use Rattle.text.proofs.Output.{on-from}
 use Rattle.numbers.proofs.put_four.Statement.{statement}
 use Rattle.numbers.proofs.put_four.Tie as tie
 

@@ -1,10 +1,10 @@
 -- `numbers::put_number` meets its contract: bare or quoted, where there is room.
-use Rattle.text.proofs.Digits.{number-bare, number-quoted, count-quoted, count-word}
-use Rattle.text.proofs.Output.{put-all, put-none}
-use Rattle.text.specs.Numbers.{number}
 use mathlib.Core.Path.{sym, _∙_}
 use native.Mathlib.Omega.{arith}
 use borrow.Author.Needs.{needs}
+use Rattle.text.proofs.Digits.{number-bare, number-quoted, count-quoted, count-word}
+use Rattle.text.proofs.Output.{put-all, put-none}
+use Rattle.text.specs.Numbers.{number}
 use Rattle.numbers.proofs.put_number.Statement.{statement}
 use Rattle.numbers.proofs.put_number.Tie as tie
 

@@ -1,7 +1,7 @@
 -- `numbers::put_pair` meets its contract: two stores.
+use borrow.Author.Needs.{needs}
 use Rattle.text.proofs.Output.{stores}
 use Rattle.text.specs.Numbers.{pair}
-use borrow.Author.Needs.{needs}
 use Rattle.numbers.proofs.put_pair.Statement.{statement}
 use Rattle.numbers.proofs.put_pair.Tie as tie
 

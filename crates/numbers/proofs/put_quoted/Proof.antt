@@ -1,9 +1,9 @@
 -- `numbers::put_quoted` meets its contract: a quote, the digits, a quote, each into the rest.
+use native.Mathlib.Omega.{arith}
+use borrow.Author.Needs.{needs}
 use Rattle.text.proofs.Output.{at-most, is-put, on-from, on-to}
 use Rattle.text.specs.Ascii.{ascii}
 use Rattle.text.specs.Numbers.{quoted}
-use native.Mathlib.Omega.{arith}
-use borrow.Author.Needs.{needs}
 use Rattle.numbers.proofs.put_quoted.Statement.{statement}
 use Rattle.numbers.proofs.put_quoted.Tie as tie
 

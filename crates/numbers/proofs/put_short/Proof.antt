@@ -1,10 +1,10 @@
 -- `numbers::put_short` meets its contract: a digit or a pair.
-use Rattle.text.proofs.Digits.{count-one, count-pair, digits-one, digits-pair}
-use Rattle.text.proofs.Output.{stores}
-use Rattle.text.specs.Numbers.{digit}
 use mathlib.Core.List.{[], _∷_}
 use native.Mathlib.Omega.{arith}
 use borrow.Author.Needs.{needs}
+use Rattle.text.proofs.Digits.{count-one, count-pair, digits-one, digits-pair}
+use Rattle.text.proofs.Output.{stores}
+use Rattle.text.specs.Numbers.{digit}
 use Rattle.numbers.proofs.put_short.Statement.{statement}
 use Rattle.numbers.proofs.put_short.Tie as tie
 

@@ -1,12 +1,12 @@
 -- `output::put_bytes` meets its contract: the bytes copied so far stand at the front.
 use Prim.Native.Nat.{_≤_, _-_}
-use Rattle.text.proofs.Output.{copy-next, put-all, put-none}
-use lib.ListN.{drop, length, length-set, take}
-use lib.Seq.{take-length}
 use mathlib.Core.List.{_++_}
 use mathlib.Core.Path.{_≡_, refl, _∙_}
 use native.Mathlib.Omega.{arith}
+use lib.ListN.{drop, length, length-set, take}
+use lib.Seq.{take-length}
 use borrow.Author.Needs.{needs}
+use Rattle.text.proofs.Output.{copy-next, put-all, put-none}
 use Rattle.output.proofs.put_bytes.Statement.{statement}
 use Rattle.output.proofs.put_bytes.Tie as tie
 

@@ -1,7 +1,7 @@
 -- `text_cases::count_changed` is safe and ends: no more bytes changed than were passed.
 use Prim.Native.Nat.{_-_, _≤_}
-use lib.ListN.{length}
 use native.Mathlib.Omega.{arith}
+use lib.ListN.{length}
 use borrow.Author.Needs.{needs}
 use Rattle.text_cases.proofs.count_changed.Statement.{statement}
 use Rattle.text_cases.proofs.count_changed.Tie as tie

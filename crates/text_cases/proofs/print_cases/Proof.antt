@@ -1,7 +1,7 @@
 -- `text_cases::print_cases` is safe and ends: each case takes a byte at least.
 use Prim.Native.Nat.{_-_}
-use lib.ListN.{length}
 use native.Mathlib.Omega.{arith}
+use lib.ListN.{length}
 use borrow.Author.Needs.{needs}
 use Rattle.text_cases.proofs.print_cases.Statement.{statement}
 use Rattle.text_cases.proofs.print_cases.Tie as tie

@@ -1,7 +1,7 @@
 -- `text_cases::print_front` is safe: the front is as long as it was asked for.
-use lib.Seq.{length-take-le}
 use mathlib.Core.Path.{sym}
 use native.Mathlib.Omega.{arith}
+use lib.Seq.{length-take-le}
 use borrow.Author.Needs.{needs}
 use Rattle.text_cases.proofs.print_front.Statement.{statement}
 use Rattle.text_cases.proofs.print_front.Tie as tie

@@ -1,7 +1,7 @@
 -- `text_cases::put_within` is safe: the room is as long as it was asked for.
-use lib.Seq.{length-take-le}
 use mathlib.Core.Path.{sym}
 use native.Mathlib.Omega.{arith}
+use lib.Seq.{length-take-le}
 use borrow.Author.Needs.{needs}
 use Rattle.text_cases.proofs.put_within.Statement.{statement}
 use Rattle.text_cases.proofs.put_within.Tie as tie
