@@ -1,8 +1,8 @@
 #!/usr/bin/env python3
 """The dumps on which the program check_cases runs, and what it must print.
 
-Written from document 01 and not from our code: `answer` below reads a dump in Python. Each named
-case says by hand the refusal, or the number of events where the dump passes, and the two must
+Written from document 01 and not from our code: `answer` of dumps.py reads a dump in Python. Each
+named case says by hand the refusal, or the number of events where the dump passes, and the two must
 agree, or nothing is written. The seeded dumps have `answer`'s word alone.
 
     check_cases.py          writes data/dumps and stdout of the crate check_cases
@@ -10,110 +10,9 @@ agree, or nothing is written. The seeded dumps have `answer`'s word alone.
 """
 import struct
 import sys
-from pathlib import Path
 
-CRATE = Path(__file__).resolve().parent.parent / "crates" / "check_cases"
-ID = 0x54585442
-TWO_32 = 1 << 32
-
-
-class Dump:
-    """The fields of a dump, to be changed by a case before it becomes bytes."""
-
-    def __init__(self, entries=3, slots=4, name_size=8, base=0x20000000):
-        self.entry_size = 16 + name_size
-        self.slot_size = 32
-        end = 48 + entries * self.entry_size
-        self.id, self.mask, self.base, self.name_size = ID, 0xFFFF, base, name_size
-        self.registry_start = base + 48
-        self.registry_end = base + end
-        self.buffer_start = base + end
-        self.buffer_end = base + end + slots * 32
-        self.current = base + end
-        self.reserved = [0, 0, 0, 0]
-        # flag, type, the two reserved bytes, pointer, parameters, name
-        self.entries = [[0, 1, b"\0\0", 0x20001000 + i, 0, 0, b"pump"] for i in range(entries)]
-        # thread pointer, priority field, event id, time stamp, four information words
-        self.slots = [[0] * 8 for _ in range(slots)]
-        self.tail = b""
-        self.cut = None
-        self.raw = {}
-
-    def use(self, *indices):
-        for i in indices:
-            self.slots[i] = [0x20001000, 16, 5, 100 + i, 1, 2, 3, 4]
-        return self
-
-    def at(self, index):
-        """Current becomes the slot with that index."""
-        self.current = self.buffer_start + index * 32
-        return self
-
-    def bytes(self, order):
-        word = lambda value: struct.pack(order + "I", value % TWO_32)
-        half = lambda value: struct.pack(order + "H", value)
-        out = word(self.id) + word(self.mask) + word(self.base) + word(self.registry_start)
-        out += half(self.reserved[0]) + half(self.name_size)
-        out += word(self.registry_end) + word(self.buffer_start) + word(self.buffer_end) + word(self.current)
-        out += b"".join(word(value) for value in self.reserved[1:])
-        for flag, kind, spare, pointer, one, two, name in self.entries:
-            out += bytes([flag, kind]) + spare + word(pointer) + word(one) + word(two)
-            out += name.ljust(self.entry_size - 16, b"\0")
-        for slot in self.slots:
-            out += b"".join(word(value) for value in slot)
-        out += self.tail
-        for place, value in self.raw.items():
-            out = out[:place] + bytes([value]) + out[place + 1:]
-        return out if self.cut is None else (out + bytes(self.cut))[:self.cut]
-
-
-def answer(dump):
-    """What 01 gives for checking these bytes, worked out rule by rule."""
-    if len(dump) < 48:
-        return "1 0"
-    if len(dump) > 65536:
-        return "2 0"
-    if dump[:4] == bytes.fromhex("54585442"):
-        order, name = ">", "big"
-    elif dump[:4] == bytes.fromhex("42545854"):
-        order, name = "<", "little"
-    else:
-        return "3 0"
-    ident, mask, base, registry_start, _, name_size, registry_end, start, end, current = struct.unpack(
-        order + "IIIIHHIIII", dump[:36])
-    if mask not in [(1 << w) - 1 for w in range(1, 33)]:
-        return "4 0"
-    if name_size not in range(4, 65, 4):
-        return "5 0"
-    offset = lambda pointer: (pointer - base) % TWO_32
-    if offset(registry_start) != 48:
-        return "6 0"
-    size = 16 + name_size
-    if not 48 <= offset(registry_end) <= len(dump) or (offset(registry_end) - 48) % size:
-        return "7 0"
-    if start != registry_end:
-        return "8 0"
-    first, last = offset(start), offset(end)
-    if not first < last <= len(dump) or (last - first) % 32:
-        return "9 0"
-    if not first <= offset(current) < last or (offset(current) - first) % 32:
-        return "10 0"
-    for i, place in enumerate(range(48, offset(registry_end), size)):
-        if dump[place] != 1 and dump[place + 1] not in [*range(1, 15), *range(21, 29)]:
-            return f"11 {i}"
-    slots = [struct.unpack(order + "8I", dump[place:place + 32]) for place in range(first, last, 32)]
-    used = [slot[0] != 0 for slot in slots]
-    here = (offset(current) - first) // 32
-    rule = [True] * len(slots) if used[here] else [i < here for i in range(len(slots))]
-    for i in range(len(slots)):
-        if i != here and used[i] != rule[i]:
-            return f"12 {i}"
-    for i, slot in enumerate(slots):
-        if used[i] and slot[2] == 0:
-            return f"13 {i}"
-    fields = [ident, mask, base, registry_start, name_size, registry_end, start, end, current]
-    return " ".join([name, *map(str, fields), str(sum(used))])
-
+from dumps import WORDS, Dump, answer, changed, damage, shifted
+from made import Chance, keep
 
 CASES = []
 
@@ -121,18 +20,6 @@ CASES = []
 def case(name, expected, dump):
     """A case in both orders: a refusal as 'number place', or the event count of a dump that passes."""
     CASES.append((name, expected, dump))
-
-
-def changed(dump, **fields):
-    for field, value in fields.items():
-        setattr(dump, field, value)
-    return dump
-
-
-def shifted(field, by, **geometry):
-    """A pointer of a sound dump moved by some bytes."""
-    dump = Dump(**geometry)
-    return changed(dump, **{field: getattr(dump, field) + by})
 
 
 def entry(index, flag, kind):
@@ -287,20 +174,6 @@ def order_of_rows():
     case("12 before 13", "12 1", both)
 
 
-class Chance:
-    """Numbers from a seed, the same under every Python."""
-
-    def __init__(self, seed):
-        self.state = seed
-
-    def below(self, count):
-        self.state = (self.state * 6364136223846793005 + 1442695040888963407) % (1 << 64)
-        return (self.state >> 33) % count
-
-    def one(self, *choices):
-        return choices[self.below(len(choices))]
-
-
 def seeded(chance):
     """A dump that was sound, with up to two things changed."""
     dump = Dump(chance.below(5), 1 + chance.below(6), 4 + 4 * chance.below(16),
@@ -310,22 +183,8 @@ def seeded(chance):
     for item in dump.entries:
         item[:2] = [chance.one(0, 1, 2, 255), chance.one(1, 14, 21, 28)]
     for _ in range(chance.below(3)):
-        kind = chance.one("id", "mask", "name_size", "registry_start", "registry_end", "buffer_start",
-                          "buffer_end", "current", "type", "pointer", "event")
-        slot = dump.slots[chance.below(len(dump.slots))]
-        if kind == "type" and dump.entries:
-            dump.entries[chance.below(len(dump.entries))][1] = chance.below(32)
-        elif kind == "pointer":
-            slot[0] = chance.one(0, 1, 0xFFFFFFFF)
-        elif kind == "event":
-            slot[2] = chance.one(0, 1, 1025)
-        elif kind == "mask":
-            dump.mask ^= 1 << chance.below(32)
-        elif kind == "name_size":
-            dump.name_size = chance.below(72)
-        elif kind != "type":
-            setattr(dump, kind, getattr(dump, kind) + chance.one(-48, -32, -24, -1, 1, 24, 32, 64))
-    dump.tail = bytes(chance.below(256) for _ in range(chance.below(4) * 11))
+        damage(dump, chance)
+    dump.tail = chance.bytes(chance.below(4) * 11)
     return dump
 
 
@@ -333,7 +192,7 @@ for group in (sound, length, identity, mask, name_size, registry, buffer, types,
     group()
 
 data, lines = bytearray(), []
-for order, word in (("<", "little"), (">", "big")):
+for order, word in WORDS.items():
     for name, expected, dump in CASES:
         raw = dump.bytes(order)
         given = answer(raw)
@@ -353,11 +212,5 @@ for index in range(600):
     data += bytes([len(title)]) + title + struct.pack("<I", len(raw)) + raw
     lines.append(f"seeded {index}: {answer(raw)}")
 
-made = {CRATE / "data" / "dumps": bytes(data), CRATE / "stdout": ("\n".join(lines) + "\n").encode()}
-if sys.argv[1:] == ["--check"]:
-    stale = [str(path.name) for path, content in made.items() if not path.exists() or path.read_bytes() != content]
-    sys.exit(f"not as check_cases.py makes them: {', '.join(stale)}" if stale else 0)
-for path, content in made.items():
-    path.parent.mkdir(parents=True, exist_ok=True)
-    path.write_bytes(content)
-print(f"{len(lines)} cases, {len(data)} bytes")
+keep(__file__, {"data/dumps": bytes(data), "stdout": ("\n".join(lines) + "\n").encode()},
+     f"{len(lines)} cases, {len(data)} bytes")

@@ -8,66 +8,12 @@ give the case's own values.
     text_cases.py          writes data/cases and stdout of the crate text_cases
     text_cases.py --check  says whether they are as this script makes them
 """
-import json
 import struct
-import sys
-from pathlib import Path
 
-CRATE = Path(__file__).resolve().parent.parent / "crates" / "text_cases"
-BARE = 9007199254740992
+from made import Chance, keep
+from texts import BARE, DOCUMENT, line, name, number, read_back
+
 MOST = (1 << 64) - 1
-CONTEXTS = ["init", "isr", "thread"]
-
-
-def number(n):
-    return json.dumps(n if n <= BARE else str(n))
-
-
-def name(raw):
-    """Plain bytes by json, the others by hand."""
-    if raw is None:
-        return json.dumps(None)
-    plain = lambda b: json.dumps(chr(b))[1:-1] if 0x20 <= b <= 0x7E else f"\\u00{b:02x}"
-    return '"' + "".join(plain(b) for b in raw) + '"'
-
-
-def line(key, ticks, us, id, ptr, by, field, info, called):
-    words = ",".join(number(word) for word in info)
-    return (
-        f'{{"key":{number(key)},"ticks":{number(ticks)},"us":{number(us)},"id":{number(id)},"ptr":{number(ptr)},'
-        f'"by":{json.dumps(CONTEXTS[by])},"name":{name(called)},"field":{number(field)},"info":[{words}]}}\n'
-    )
-
-
-def read_back(text, key, ticks, us, id, ptr, by, field, info, called):
-    """What a JSON parser makes of the line: bare numbers are exact as floats, the others are strings."""
-    def bare(digits):
-        assert int(float(digits)) == int(digits) <= BARE, digits
-        return int(digits)
-
-    event = json.loads(text, parse_int=bare)
-    own = lambda value: value if isinstance(value, int) else int(value)
-    assert list(event) == ["key", "ticks", "us", "id", "ptr", "by", "name", "field", "info"], text
-    assert [own(event[k]) for k in ("key", "ticks", "us", "id", "ptr", "field")] == [key, ticks, us, id, ptr, field], text
-    assert event["by"] == CONTEXTS[by] and [own(word) for word in event["info"]] == list(info), text
-    assert (None if event["name"] is None else event["name"].encode("latin-1")) == called, text
-    assert text.isascii() and text.count("\n") == 1 and text.endswith("}\n"), text
-
-
-class Chance:
-    """A generator of its own, so that every machine makes the same cases."""
-
-    def __init__(self, seed):
-        self.state = seed
-
-    def below(self, n):
-        self.state = (self.state * 6364136223846793005 + 1442695040888963407) % (1 << 64)
-        return (self.state >> 33) % n
-
-    def bits(self, most):
-        """A number of any size up to so many bits."""
-        return sum(self.below(2) << i for i in range(self.below(most + 1)))
-
 
 NUMBERS = [9, 10, 99, 100, 101, 4294967295, 4294967296]
 NUMBERS += [n for k in range(20) for n in (10**k - 1, 10**k)]
@@ -88,7 +34,7 @@ LINES += [(n, n, n, 4294967295, 4294967295, by, 4294967295, (4294967295, 0, 4294
 chance = Chance(2026)
 NUMBERS += [chance.bits(64) for _ in range(1000)]
 for _ in range(200):
-    called = None if chance.below(4) == 0 else bytes(chance.below(256) for _ in range(chance.below(65)))
+    called = None if chance.below(4) == 0 else chance.bytes(chance.below(65))
     LINES.append((chance.bits(64), chance.bits(63), chance.bits(64), chance.bits(32), chance.bits(32), chance.below(3),
                   chance.bits(32), tuple(chance.bits(32) for _ in range(4)), called))
 
@@ -104,20 +50,9 @@ for case in LINES:
     read_back(text, *case)
     out.append(f"{text}{len(text)} 0 0 {len(text)} 0 0\n")
 
-document = """\
-{"key":9007199254740992,"ticks":0,"us":0,"id":5,"ptr":536875008,"by":"thread","name":"pump","field":16,"info":[1,2,3,4]}
-{"key":"9007199254740993","ticks":56,"us":18,"id":1025,"ptr":4294967295,"by":"isr","name":"pump","field":536875008,"info":[0,0,0,0]}
-{"key":"9007199254740994","ticks":56,"us":18,"id":6,"ptr":536879104,"by":"thread","name":null,"field":16,"info":[7,0,0,0]}
-"""
-assert "".join(line(*case) for case in WHOLE_CASE) == document
+assert "".join(line(*case) for case in WHOLE_CASE) == DOCUMENT
 assert name(b'A"\n') == '"A\\"\\u000a"'
 assert number(9007199254 * 1000000) == "9007199254000000" and number(9007199255 * 1000000) == '"9007199255000000"'
 
-made = {CRATE / "data" / "cases": bytes(data), CRATE / "stdout": "".join(out).encode()}
-if sys.argv[1:] == ["--check"]:
-    stale = [path.name for path, content in made.items() if not path.exists() or path.read_bytes() != content]
-    sys.exit(f"not as text_cases.py makes them: {', '.join(stale)}" if stale else 0)
-for path, content in made.items():
-    path.parent.mkdir(parents=True, exist_ok=True)
-    path.write_bytes(content)
-print(f"{len(NUMBERS)} numbers, {len(LINES)} lines, {len(data)} bytes")
+keep(__file__, {"data/cases": bytes(data), "stdout": "".join(out).encode()},
+     f"{len(NUMBERS)} numbers, {len(LINES)} lines, {len(data)} bytes")

@@ -1,21 +1,12 @@
 // Checks each dump of the file `dumps` and prints what the check gives, a line for each.
 // A case in the file is a name's length (a byte), the name, the dump's length (32 bits, little-endian) and the dump.
+use console::print_refusal;
+use console::print_space;
+use console::read_some;
 use libc::STDOUT_FILENO;
-use rows::Refusal;
 use trace::Checked;
 use trace::Header;
 use words::Order;
-ghost use Rattle.io.specs.Counts.{Counts};
-
-fn print_space(n: u64) {
-    io::write_all(STDOUT_FILENO, b" ");
-    io::print_decimal(STDOUT_FILENO, n);
-}
-
-fn print_refusal(refusal: Refusal) {
-    io::print_decimal(STDOUT_FILENO, refusal.number as u64);
-    print_space(refusal.place as u64);
-}
 
 fn print_order(order: Order) {
     match order {
@@ -47,16 +38,6 @@ fn print_answer(answer: Checked) {
             print_space(events as u64);
         }
     }
-}
-
-// Reads so many bytes, if the space has room for them, and says how many came.
-fn read_some(file: i32, space: &mut [u8], size: usize) -> usize
-    ensures { λ r. ⌜ Counts r (now (space .exit)) ⌝ }
-{
-    if space.len() < size {
-        return 0;
-    }
-    io::read_full(file, &mut space[..size])
 }
 
 // Reads a case's name and prints it; says whether there was one.

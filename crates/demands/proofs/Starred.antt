@@ -9,15 +9,17 @@ use Rattle.trace.specs.Layout.{headerIn, slotSize}
 use Rattle.trace.specs.Registry.{isInUse, isAllowedType, isWantedAt}
 use Rattle.trace.specs.Slots.{isFault}
 use Rattle.trace.specs.Table.{row1, row2, row3, row4, row5, row6, row7, row8, row9, row10, row11, row12, row13}
-use Rattle.trace.specs.Times.{microseconds}
-use Rattle.words.specs.Masks.{widthTo}
+use Rattle.trace.specs.Times.{gap, microseconds}
+use Rattle.words.proofs.Circles.{minus-same}
+use Rattle.words.specs.Masks.{width, widthTo}
 use Rattle.words.specs.Offsets.{minus}
 use Rattle.words.specs.Words.{bytesAt, lowestFirst, joined, split, numberAt, numberBytes}
 use Rattle.words.specs.declared.Order.{Order}
 use Rattle.words.specs.declared.Order.the-variants.{Big, Little}
-use Rattle.demands.specs.Starred.{topHeader, headerBytes, topDump, Starred}
+use Rattle.demands.specs.Starred.{topHeader, topDump, Starred}
+use Rattle.demands.specs.Bytes.{headerBytes}
 
 pub starred : (o : Order) → Starred o
-unfolding widthTo minus bytesAt lowestFirst joined split numberAt numberBytes lowest count firstBroken checkOf headerIn slotSize isInUse isAllowedType isWantedAt isFault row1 row2 row3 row4 row5 row6 row7 row8 row9 row10 row11 row12 row13 topHeader headerBytes topDump microseconds escape escaped hexDigit isMarked isPlain digits digitsIn isBare number quoted
-starred Big = record { mask-0x1 = refl; mask-0xFFFFFFFF = refl; mask-0 = refl; mask-0x5 = refl; mask-0xFF00 = refl; end-pointer-0 = refl; end-offset-256 = refl; bare-at-9007199254-ticks = refl; quoted-at-9007199255-ticks = refl; name-41-22-0A = refl }
-starred Little = record { mask-0x1 = refl; mask-0xFFFFFFFF = refl; mask-0 = refl; mask-0x5 = refl; mask-0xFF00 = refl; end-pointer-0 = refl; end-offset-256 = refl; bare-at-9007199254-ticks = refl; quoted-at-9007199255-ticks = refl; name-41-22-0A = refl }
+unfolding widthTo minus bytesAt lowestFirst joined split numberAt numberBytes lowest count firstBroken checkOf headerIn slotSize isInUse isAllowedType isWantedAt isFault row1 row2 row3 row4 row5 row6 row7 row8 row9 row10 row11 row12 row13 topHeader headerBytes topDump gap microseconds escape escaped hexDigit isMarked isPlain digits digitsIn isBare number quoted
+starred Big = record { mask-0x1 = refl; mask-0xFFFFFFFF = refl; mask-0 = refl; mask-0x5 = refl; mask-0xFF00 = refl; end-pointer-0 = refl; end-offset-256 = refl; gap-65500-20 = refl; gap-equal = λ mask stamp. minus-same (width mask) stamp; bare-at-9007199254-ticks = refl; quoted-at-9007199255-ticks = refl; name-41-22-0A = refl }
+starred Little = record { mask-0x1 = refl; mask-0xFFFFFFFF = refl; mask-0 = refl; mask-0x5 = refl; mask-0xFF00 = refl; end-pointer-0 = refl; end-offset-256 = refl; gap-65500-20 = refl; gap-equal = λ mask stamp. minus-same (width mask) stamp; bare-at-9007199254-ticks = refl; quoted-at-9007199255-ticks = refl; name-41-22-0A = refl }

@@ -1,11 +1,30 @@
--- The whole case's lines come out of the definition: each computes.
+-- The whole case holds: it computes.
 use mathlib.Core.Path.{refl}
+use Rattle.events.specs.Events.{contextOf, eventIn, nameFor}
+use Rattle.events.specs.Listing.{fields, lineOf, linesTo}
+use Rattle.rows.specs.Lowest.{lowest, count}
+use Rattle.rows.specs.Rows.{firstBroken}
 use Rattle.text.specs.Lines.{context, field, line}
 use Rattle.text.specs.Names.{escape, escaped, hexDigit, isMarked, isPlain, name}
 use Rattle.text.specs.Numbers.{digits, digitsIn, isBare, number, quoted}
-use Rattle.trace.specs.Times.{microseconds}
-use Rattle.demands.specs.WholeCase.{WholeCase}
+use Rattle.trace.specs.Check.{checkOf}
+use Rattle.trace.specs.Keys.{key}
+use Rattle.trace.specs.Layout.{headerIn, slotSize}
+use Rattle.trace.specs.Names.{nameBytes, nameOf}
+use Rattle.trace.specs.Registry.{isInUse, isAllowedType, isWantedAt}
+use Rattle.trace.specs.Ring.{fromCurrent, keep, numbersFrom, oldestFirst}
+use Rattle.trace.specs.Slots.{isFault, slotIn}
+use Rattle.trace.specs.Table.{row1, row2, row3, row4, row5, row6, row7, row8, row9, row10, row11, row12, row13, row14, row15, row16}
+use Rattle.trace.specs.Times.{gap, microseconds, ticksOf}
+use Rattle.words.specs.Masks.{widthTo}
+use Rattle.words.specs.Offsets.{minus}
+use Rattle.words.specs.Words.{bytesAt, lowestFirst, joined, split, numberAt, numberBytes}
+use Rattle.words.specs.declared.Order.{Order}
+use Rattle.words.specs.declared.Order.the-variants.{Big, Little}
+use Rattle.demands.specs.Bytes.{headerBytes, slotBytes, threadBytes}
+use Rattle.demands.specs.WholeCase.{WholeCase, middle, middleLine, newest, newestLine, oldest, oldestLine, reading, threeLines, wholeDump, wholeHeader}
 
-pub whole-case : WholeCase
-unfolding microseconds context field line escape escaped hexDigit isMarked isPlain name digits digitsIn isBare number quoted
-whole-case = record { first-line = refl; second-line = refl; third-line = refl }
+pub whole-case : (o : Order) → WholeCase o
+unfolding widthTo minus bytesAt lowestFirst joined split numberAt numberBytes lowest count firstBroken checkOf headerIn slotSize isInUse isAllowedType isWantedAt isFault row1 row2 row3 row4 row5 row6 row7 row8 row9 row10 row11 row12 row13 row14 row15 row16 headerBytes slotBytes threadBytes middle middleLine newest newestLine oldest oldestLine reading threeLines wholeDump wholeHeader contextOf eventIn nameFor fields lineOf linesTo context field line name escape escaped hexDigit isMarked isPlain digits digitsIn isBare number quoted key nameBytes nameOf fromCurrent keep numbersFrom oldestFirst slotIn gap microseconds ticksOf
+whole-case Big = record { check = refl; listing = refl; room = refl; no-room = refl }
+whole-case Little = record { check = refl; listing = refl; room = refl; no-room = refl }

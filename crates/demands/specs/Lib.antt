@@ -1,6 +1,8 @@
 pub mod BareNumbers
+pub mod Bytes
 pub mod Patterns
 pub mod Pointers
+pub mod Readings
 pub mod Starred
 pub mod Texts
 pub mod Turns

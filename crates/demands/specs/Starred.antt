@@ -8,12 +8,12 @@ use Rattle.text.specs.Names.{escaped}
 use Rattle.text.specs.Numbers.{number}
 use Rattle.trace.specs.Check.{checkOf}
 use Rattle.trace.specs.Layout.{traceId, bufferEnd}
-use Rattle.trace.specs.Times.{microseconds}
+use Rattle.trace.specs.Times.{gap, microseconds}
 use Rattle.trace.specs.declared.Checked.{Checked}
 use Rattle.trace.specs.declared.Checked.the-variants.{Refused, Sound}
 use Rattle.trace.specs.declared.Header.{Header}
-use Rattle.words.specs.Words.{numberBytes}
 use Rattle.words.specs.declared.Order.{Order}
+use Rattle.demands.specs.Bytes.{headerBytes}
 
 -- the header of a buffer that ends at the top of memory: base 0xFFFFFF00, name size 4, four entries, four slots
 unfoldable pub topHeader : Order → ℕ → Header
@@ -29,17 +29,6 @@ topHeader o mask = record {
   «buffer_end» = 0;
   current = 0xFFFFFF80;
 }
-
--- its bytes, in the header's order
-unfoldable pub headerBytes : Header → List ℕ
-headerBytes h =
-    word (h .id) ++ word (h .mask) ++ word (h .base) ++ word (h .«registry_start»)
-    ++ numberBytes (h .order) 2 0 ++ numberBytes (h .order) 2 (h .«name_size»)
-    ++ word (h .«registry_end») ++ word (h .«buffer_start») ++ word (h .«buffer_end») ++ word (h .current)
-    ++ replicate 12 0
-  where
-    word : ℕ → List ℕ
-    word v = numberBytes (h .order) 4 v
 
 -- the dump: four free entries and four unused slots
 unfoldable pub topDump : Order → ℕ → List ℕ
@@ -60,6 +49,8 @@ pub record Starred (o : Order) : Type 0 where
   pub mask-0xFF00 : checkOf (topDump o 0xFF00) ≡ refused 4
   pub end-pointer-0 : checkOf (topDump o 0xFFFF) ≡ Sound (topHeader o 0xFFFF) 0
   pub end-offset-256 : bufferEnd (topHeader o 0xFFFF) ≡ 256
+  pub gap-65500-20 : gap 0xFFFF 65500 20 ≡ 56
+  pub gap-equal : (mask stamp : ℕ) → gap mask stamp stamp ≡ 0
   pub bare-at-9007199254-ticks : number (microseconds 9007199254 1) ≡ ascii "9007199254000000"
   pub quoted-at-9007199255-ticks : number (microseconds 9007199255 1) ≡ ascii "\"9007199255000000\""
   pub name-41-22-0A : escaped (0x41 ∷ 0x22 ∷ 0x0A ∷ []) ≡ ascii "A\\\"\\u000a"

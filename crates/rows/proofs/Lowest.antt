@@ -20,6 +20,27 @@ lowest-at t (suc n) zero within miss hit = rw hit
 lowest-at t (suc n) (suc r) within miss hit =
     rw (miss 0 (omega arith)) (ap suc (lowest-at (λ k. t (suc k)) n r (omega arith) (λ k h. miss (suc k) (omega arith)) hit))
 
+missed : (b : Bool) (n m : ℕ) → suc n ≤ cond b 0 (suc m) → (b ≡ false) × (n ≤ m)
+missed true n m ended = absurd (omega arith)
+missed false n m ended = (refl, omega arith)
+
+-- a search ends at the count at the latest
+one-later : (b : Bool) (n m : ℕ) → m ≤ n → cond b 0 (suc m) ≤ suc n
+one-later true n m below = omega arith
+one-later false n m below = omega arith
+
+pub lowest-le : (t : ℕ → Bool) (n : ℕ) → lowest t n ≤ n
+unfolding lowest
+lowest-le t zero = omega arith
+lowest-le t (suc n) = one-later (t 0) n (lowest (λ k. t (suc k)) n) (lowest-le (λ k. t (suc k)) n)
+
+-- a search that ended at the count met no hit
+pub none-hit : (t : ℕ → Bool) (n : ℕ) → n ≤ lowest t n → (k : ℕ) → k < n → t k ≡ false
+unfolding lowest
+none-hit t zero ended k below = absurd (omega arith)
+none-hit t (suc n) ended zero below = missed (t 0) n (lowest (λ k. t (suc k)) n) ended .0
+none-hit t (suc n) ended (suc k) below = none-hit (λ k. t (suc k)) n (missed (t 0) n (lowest (λ k. t (suc k)) n) ended .1) k (omega arith)
+
 -- one index more
 pub count-more : (t : ℕ → Bool) (n : ℕ) → count t (n + 1) ≡ count t n + cond (t n) 1 0
 unfolding count

@@ -1,8 +1,10 @@
 -- Rows one after another give the first that is broken.
+use Prim.Native.Nat.{ℕ, zero, suc}
 use mathlib.Core.Bool.{Bool, true, false, cond}
 use mathlib.Core.List.{List, [], _∷_, _++_}
 use mathlib.Core.Path.{_≡_, refl, sym, ap, _∙_}
-use Rattle.rows.specs.Rows.{Row, refusal, firstBroken, afterRow, afterRows}
+use lib.ListN.{getD}
+use Rattle.rows.specs.Rows.{Row, row, refusal, firstBroken, afterRow, afterRows}
 use Rattle.rows.specs.declared.Refusal.{Refusal}
 use Rattle.rows.specs.declared.Verdict.{Verdict}
 use Rattle.rows.specs.declared.Verdict.the-variants.{Passed, Refused}
@@ -37,6 +39,25 @@ module _ (rs more : List Row) where
   pub then-more : firstBroken rs ≡ Passed → afterRows Passed more ≡ firstBroken (rs ++ more)
   then-more e = rw e at (in-order rs more)
 
+  -- rows have passed where they and further rows have
+  pub passed-before : firstBroken (rs ++ more) ≡ Passed → firstBroken rs ≡ Passed
+  passed-before passed = by (firstBroken rs) refl
+    where
+      by : (v : Verdict) → firstBroken rs ≡ v → v ≡ Passed
+      by Passed e = refl
+      by (Refused f) e = then-refused f e ∙ passed
+
 -- one row more after a verdict that is known
 pub row-after : {v w x : Verdict} (r : Row) → x ≡ afterRow v r → v ≡ w → x ≡ afterRow w r
 row-after r e f = e ∙ ap (λ v. afterRow v r) f
+
+past : (b : Bool) (f : Refusal) (v : Verdict) → cond b (Refused f) v ≡ Passed → (b ≡ false) × (v ≡ Passed)
+past true f v e = (cc, cc)
+past false f v e = (refl, e)
+
+-- of rows that passed none is broken
+pub none-broken : (rs : List Row) → firstBroken rs ≡ Passed → (k : ℕ) → getD rs k (row 0 false) .broken ≡ false
+unfolding firstBroken
+none-broken [] passed k = refl
+none-broken (r ∷ rs) passed zero = past (r .broken) (refusal r) (firstBroken rs) passed .0
+none-broken (r ∷ rs) passed (suc k) = none-broken rs (past (r .broken) (refusal r) (firstBroken rs) passed .1) k

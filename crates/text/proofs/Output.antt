@@ -45,6 +45,22 @@ not-put text out long put =
     let nothing = rw (printed-none text out long) at put in
     (nothing .count, nothing .bytes)
 
+-- so an answer of 0 says that there was no room, where the text has some bytes
+pub zero-said : (text out : List ℕ) {new : List ℕ} {answer : ℕ} → 1 ≤ length text → Put (printed text out) out new answer → answer ≡ 0 → length out < length text
+zero-said text out {new} {answer} filled put none = by-room (leb (length text) (length out)) refl
+  where
+    by-room : (fits : Bool) → leb (length text) (length out) ≡ fits → length out < length text
+    by-room true e = absurd (omega (arith, rw (printed-all text out (leb-true (length text) (length out) e)) at (put .count)))
+    by-room false e = leb-false (length text) (length out) e
+
+-- and any other that there was
+pub some-said : (text out : List ℕ) {new : List ℕ} {answer : ℕ} → Put (printed text out) out new answer → (answer ≡ 0 → ⊥) → length text ≤ length out
+some-said text out {new} {answer} put some = by-room (leb (length text) (length out)) refl
+  where
+    by-room : (fits : Bool) → leb (length text) (length out) ≡ fits → length text ≤ length out
+    by-room true e = leb-true (length text) (length out) e
+    by-room false e = absurd (some (not-put text out (leb-false (length text) (length out) e) put .0))
+
 -- what is put where there is known to be room
 pub is-put : (text out : List ℕ) {new : List ℕ} {answer : ℕ} → length text ≤ length out → Put (printed text out) out new answer → Put text out new answer
 is-put text out fits put = rw (printed-all text out fits) at put

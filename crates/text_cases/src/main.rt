@@ -3,23 +3,14 @@
 // A line's case is an l, the line's fields in their order, and the name's length and bytes; it gives the line, and then
 // six numbers that say what it does with too little room, with just enough and with plenty.
 // Numbers in the file are little-endian.
+use console::print_front;
+use console::print_space;
 use libc::STDOUT_FILENO;
 use text::Context;
 use text::Info;
 use text::Line;
 use words::Order;
 ghost use Prim.Native.Nat.{_≤_, _<_, _^_};
-
-fn print_space(n: u64) {
-    io::write_all(STDOUT_FILENO, b" ");
-    io::print_decimal(STDOUT_FILENO, n);
-}
-
-fn print_front(out: &[u8], n: usize) {
-    if n <= out.len() {
-        io::write_all(STDOUT_FILENO, &out[..n]);
-    }
-}
 
 fn print_number(x: u64) {
     let mut out = [0u8; 22];

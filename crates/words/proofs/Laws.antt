@@ -1,15 +1,13 @@
--- Numbers in bytes, for every order and every count of bytes: what was stored is read back, the rest is unchanged, the length is kept, a number is below its range. And a difference is below its circle.
-use Prim.Native.Nat.{ℕ, zero, suc, _+_, _-_, _*_, _/_, _%_, _^_, _≤_, _<_}
-use mathlib.Core.Path.{_≡_, refl, ap, _∙_}
+-- Numbers in bytes, for every order and every count of bytes: what was stored is read back, the rest is unchanged, the length is kept, a number is below its range.
+use Prim.Native.Nat.{ℕ, zero, suc, _+_, _*_, _/_, _%_, _^_, _≤_, _<_}
+use mathlib.Core.Path.{_≡_, refl, ap, ap₂, _∙_}
 use mathlib.Core.Logic.{_⊎_, inl, inr, ⊎-elim}
 use mathlib.Core.List.{List, [], _∷_, reverseAux, reverse-reverse}
-use native.Mathlib.Nat.{pow-suc, mod-lt}
+use native.Mathlib.Nat.{add-suc, pow-suc}
 use native.Mathlib.Omega.{arith}
-use lib.Pow.{pow-pos}
-use lib.ListN.{length, getD, set, length-set, length-reverse}
-use lib.Seq.{sets, length-sets, getD-set-same, getD-set-other}
+use lib.ListN.{length, drop, getD, set, length-set, length-reverse}
+use lib.Seq.{sets, length-sets, getD-drop, getD-set-same, getD-set-other}
 use Rattle.words.specs.Words.{AreBytes, bytesAt, lowestFirst, joined, split, numberAt, numberBytes, putNumber}
-use Rattle.words.specs.Offsets.{minus}
 use Rattle.words.specs.declared.Order.{Order}
 use Rattle.words.specs.declared.Order.the-variants.{Big, Little}
 
@@ -143,7 +141,12 @@ read-bytes o n s at small =
     let same : split n (joined ordered) ≡ ordered = rw long at (split-joined (each-order o (each-at n s at small))) in
     rw same (order-back o (bytesAt s at n))
 
--- a difference around a circle of two to the w is below it
-pub minus-below : (w a b : ℕ) → minus w a b < 2 ^ w
-unfolding minus
-minus-below w a b = mod-lt (a + (2 ^ w - b % 2 ^ w)) (pow-pos w)
+-- what is read of the rest, from a place on, is read of the whole that far on
+drop-bytes : (n : ℕ) (s : List ℕ) (at k : ℕ) → bytesAt (drop at s) k n ≡ bytesAt s (at + k) n
+unfolding bytesAt
+drop-bytes zero s at k = refl
+drop-bytes (suc n) s at k = ap₂ (λ (b : ℕ) (bs : List ℕ). b ∷ bs) (getD-drop at s k 0) (rw (← add-suc) (drop-bytes n s at (suc k)))
+
+pub drop-read : (o : Order) (n : ℕ) (s : List ℕ) (at k : ℕ) → numberAt o n (drop at s) k ≡ numberAt o n s (at + k)
+unfolding numberAt
+drop-read o n s at k = rw (drop-bytes n s at k)

@@ -1,3 +1,4 @@
+pub mod Circles
 pub mod Laws
 pub mod Masks
 pub mod Places

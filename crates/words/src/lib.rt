@@ -1,12 +1,13 @@
-// Numbers of 16 and 32 bits in bytes of either order, offsets, and the width of a mask.
+// Numbers of 16 and 32 bits in bytes of either order, offsets, gaps, and the width of a mask.
 // Nothing here can fail: a byte past the end reads as 0, and is not stored.
 ghost use mathlib.Core.Path.{_≡_};
-ghost use Prim.Native.Nat.{_+_};
+ghost use Prim.Native.Nat.{_+_, _-_, _%_, _^_};
+ghost use lib.Bits.{bitAnd};
 ghost use lib.ListN.{getD, set};
 ghost use mathlib.Core.List.{[], _∷_};
 ghost use lib.Seq.{sets};
 ghost use Rattle.words.specs.Words.{joined, lowestFirst, halfAt, wordAt, putHalf, putWord};
-ghost use Rattle.words.specs.Offsets.{offset};
+ghost use Rattle.words.specs.Offsets.{minus, offset};
 ghost use Rattle.words.specs.Masks.{width};
 
 pub enum Order {
@@ -120,11 +121,25 @@ pub fn put_word(buffer: &mut [u8], at: usize, order: Order, v: u32)
     }
 }
 
+// a minus b, modulo two to the 32.
+fn difference(a: u32, b: u32) -> u32
+    ensures { λ r. ⌜ r ≡ (a + (2 ^ 32 - b)) % 2 ^ 32 ⌝ }
+{
+    std::num::wrapping_sub_u32(a, b)
+}
+
 // A pointer minus the base address, modulo two to the 32.
 pub fn offset_from(base: u32, pointer: u32) -> usize
     ensures { λ r. ⌜ r ≡ offset base pointer ⌝ }
 {
-    std::num::wrapping_sub_u32(pointer, base) as usize
+    difference(pointer, base) as usize
+}
+
+// The later stamp minus the earlier, under a mask.
+pub fn gap(earlier: u32, later: u32, mask: u32) -> u32
+    ensures { λ r. ⌜ r ≡ bitAnd (minus 32 later earlier) mask ⌝ }
+{
+    difference(later, earlier) & mask
 }
 
 // How many ones a mask has, all at the bottom; 0 where it is no such mask.

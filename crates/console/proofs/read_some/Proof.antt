@@ -1,4 +1,4 @@
--- `check_cases::read_some` meets its contract: what came lies at the start of the space.
+-- `console::read_some` meets its contract: what came lies at the start.
 use lib.ListN.{drop, length, length-append}
 use Prim.Native.Nat.{ℕ, _≤_}
 use mathlib.Core.List.{List, _++_}
@@ -7,8 +7,8 @@ use native.Mathlib.Omega.{arith}
 use lib.Seq.{length-take-le}
 use Rattle.io.specs.Counts.{Counts}
 use borrow.Author.Needs.{needs}
-use Rattle.check_cases.proofs.read_some.Statement.{statement}
-use Rattle.check_cases.proofs.read_some.Tie as tie
+use Rattle.console.proofs.read_some.Statement.{statement}
+use Rattle.console.proofs.read_some.Tie as tie
 
 counts : (n : ℕ) (came rest : List ℕ) → n ≤ length came → Counts n (came ++ rest)
 counts n came rest l =
@@ -33,7 +33,7 @@ same-length c = search needs
 returns-2 : tie.Need-returns-2
 returns-2 c =
     let a = c .before .before .before .before .before .before .args in
-    counts (c .before .before .read-full .result) (c .before .before .read-full .last .1 .0) (drop (a .size) (a .space .now)) (c .before .before .read-full .ensures .0)
+    counts (c .before .before .read-full .result) (c .before .before .read-full .last .1 .0) (drop (a .size) (a .bytes .now)) (c .before .before .read-full .ensures .0)
 
 pub read-some-spec : {M : Type 1} → statement M
 read-some-spec =

@@ -1,0 +1,613 @@
+#!/usr/bin/env python3
+"""The questions that the program reader_cases puts to the reader, and what it must print.
+
+The answers come from reader.py, which is written from document 01 and not from our code. A named case
+also says by hand what must come, whole or in part, and the two must agree, or nothing is written. The
+seeded cases have reader.py's word alone. Every line is read by Python's JSON parser, and must give the
+values that it was made of.
+
+    reader_cases.py          writes data/cases and stdout of the crate reader_cases
+    reader_cases.py --check  says whether they are as this script makes them
+"""
+import json
+import struct
+import sys
+from collections import namedtuple
+
+from dumps import WORDS, Dump, Refused, changed, damage, shifted
+from made import Chance, keep
+from reader import Reading, find_name, listing, one_event, one_line, read_events, read_fields
+from texts import BARE, CONTEXTS, DOCUMENT, line, name, read_back
+
+PUMP, VALVE, ALARM = 0x20001000, 0x20001100, 0x20001200
+INIT, ISR = 0xF0F0F0F0, 0xFFFFFFFF
+TWO_40 = 1 << 40
+LAST = (1 << 64) - 1
+PLAIN = Reading(rate=1000000, unit=0, serial=0)
+
+# By hand: the reply itself, or a list of values for some of the fields; nothing where the case is seeded.
+Case = namedtuple("Case", "name kind dump reading position pointer room by_hand")
+CASES = []
+
+
+# How much room a text gets, by its length and the number of its lines.
+
+def some(length, lines):
+    """A little more than it needs."""
+    return length + 7
+
+
+def exact(length, lines):
+    return length
+
+
+def short(length, lines):
+    return max(length - 1, 0)
+
+
+def plenty(length, lines):
+    """So much that no listing of so many lines needs it."""
+    return 733 * lines
+
+
+def of(room):
+    """So much, whatever the text."""
+    return lambda length, lines: room
+
+
+# What is asked.
+
+def an_event(title, dump, position, by_hand):
+    CASES.append(Case(title, "e", dump, PLAIN, position, 0, of(0), by_hand))
+
+
+def a_name(title, dump, pointer, by_hand):
+    CASES.append(Case(title, "n", dump, PLAIN, 0, pointer, of(0), by_hand))
+
+
+def a_line(title, dump, position, by_hand, reading=PLAIN, room=some):
+    CASES.append(Case(title, "l", dump, reading, position, 0, room, by_hand))
+
+
+def a_listing(title, dump, by_hand, reading=PLAIN, room=some):
+    CASES.append(Case(title, "a", dump, reading, 0, 0, room, by_hand))
+
+
+def both(title, dump, reading, by_hand):
+    """A reply that is the same for the listing and for the first line."""
+    a_listing(f"{title}, listing", dump, by_hand, reading)
+    a_line(f"{title}, line", dump, 0, by_hand, reading)
+
+
+def each(title, dump, reading=PLAIN, **by_hand):
+    """The listing, and each line and each event by position. An event has no key and no microseconds."""
+    a_listing(title, dump, by_hand, reading)
+    for position in range(len(next(iter(by_hand.values())))):
+        here = {field: [values[position]] for field, values in by_hand.items()}
+        a_line(f"{title}, line {position}", dump, position, here, reading)
+        shown = {field: values for field, values in here.items() if field not in ("key", "us")}
+        if shown:
+            an_event(f"{title}, event {position}", dump, position, shown)
+
+
+# What dumps hold.
+
+def slot(pointer=PUMP, field=16, ident=5, stamp=100, info=(1, 2, 3, 4)):
+    return [pointer, field, ident, stamp, *info]
+
+
+def entry(pointer, called, flag=0, kind=1):
+    return [flag, kind, b"\0\0", pointer, 0, 0, called]
+
+
+def holding(slots, *entries, current=None, size=8, mask=0xFFFF, base=0x20000000):
+    """A dump of these; with no current given, the ring has not gone round and an unused slot follows."""
+    slots = list(slots) if current is not None else [*slots, [0] * 8]
+    dump = Dump(len(entries), len(slots), size, base)
+    dump.at(len(slots) - 1 if current is None else current)
+    return changed(dump, slots=slots, entries=list(entries), mask=mask)
+
+
+def stamped(*stamps, mask=0xFFFF):
+    return holding([slot(stamp=stamp) for stamp in stamps], mask=mask)
+
+
+def numbered(used, slots, current):
+    """A ring whose slot i has the event id i + 1."""
+    dump = Dump(entries=1, slots=slots).at(current)
+    dump.slots[:used] = [slot(ident=i + 1, stamp=100 + i) for i in range(used)]
+    return dump
+
+
+def written(text):
+    """The reply of a call that wrote a text and changed nothing past it."""
+    return f"{len(text)} 0\n{text}"[:-1]
+
+
+# The cases.
+
+def whole_case():
+    dump = holding([slot(0x20002000, 16, 6, 20, (7, 0, 0, 0)), slot(PUMP, 16, 5, 65500),
+                    slot(ISR, PUMP, 1025, 20, (0, 0, 0, 0))], entry(PUMP, b"pump"), current=1)
+    assert dump.current == 0x20000000 + 104
+    reading = Reading(rate=3000000, unit=8192, serial=0)
+    lines = DOCUMENT.splitlines(keepends=True)
+    for title, room in (("some room", some), ("exact room", exact), ("plenty of room", plenty)):
+        a_listing(f"whole case, {title}", dump, written(DOCUMENT), reading, room)
+        for position in range(3):
+            a_line(f"whole case, line {position}, {title}", dump, position, written(lines[position]), reading, room)
+    a_line("whole case, line 3", dump, 3, "25 0 0", reading)
+    an_event("whole case, event 0", dump, 0, '536875008 16 5 65500 1 2 3 4 0 thread "pump"')
+    an_event("whole case, event 1", dump, 1, '4294967295 536875008 1025 20 0 0 0 0 56 isr "pump"')
+    an_event("whole case, event 2", dump, 2, "536879104 16 6 20 7 0 0 0 56 thread null")
+    an_event("whole case, event 3", dump, 3, "25 0")
+    a_name("whole case, name of the thread", dump, PUMP, '"pump" 4 64')
+    a_name("whole case, name of another", dump, 0x20002000, "null 0")
+
+
+def rings():
+    each("gone round, current in the middle", numbered(5, 5, 2), id=[3, 4, 5, 1, 2], key=[0, 1, 2, 3, 4])
+    each("gone round, current at 0", numbered(5, 5, 0), id=[1, 2, 3, 4, 5])
+    each("gone round, current at the last slot", numbered(5, 5, 4), id=[5, 1, 2, 3, 4])
+    each("gone round, one slot", numbered(1, 1, 0), id=[1], ticks=[0], us=[0])
+    each("not gone round", numbered(3, 5, 3), id=[1, 2, 3], ticks=[0, 1, 2])
+    each("not gone round, one event", numbered(1, 5, 1), id=[1])
+    each("not gone round, all but the last slot", numbered(4, 5, 4), id=[1, 2, 3, 4])
+    top = Dump(entries=4, slots=4, name_size=4, base=0xFFFFFF00).use(0, 1, 2, 3).at(3)
+    each("top of memory, end pointer 0", top, ticks=[0, 65533, 65534, 65535], name=["pump"] * 4)
+    for title, empty in (("empty ring", Dump()), ("empty ring of one slot", Dump(entries=0, slots=1))):
+        for room in (0, 1, 300):
+            a_listing(f"{title}, room {room}", empty, "0 0", room=of(room))
+        an_event(f"{title}, event 0", empty, 0, "25 0")
+        a_line(f"{title}, line 0", empty, 0, "25 0 0")
+
+
+def full():
+    """65,536 bytes with no registry: 2,046 slots, each 100 ticks after the one before; and 65,537 bytes."""
+    slots = [slot(ident=i + 1, stamp=(i - 700) % 2046 * 100, info=(0, 0, 0, i)) for i in range(2046)]
+    dump = changed(holding(slots, current=700), cut=65536)
+    ids = [*range(701, 2047), *range(1, 701)]
+    steps = [100 * i for i in range(2046)]
+    by_hand = dict(key=list(range(2046)), ticks=steps, us=steps, id=ids, name=[None] * 2046)
+    a_listing("65,536 bytes, 2,046 events", dump, by_hand, room=of(1500000))
+    a_listing("65,536 bytes, one byte short", dump, "16 0 0", room=short)
+    a_line("65,536 bytes, line 2045", dump, 2045, dict(id=[700], ticks=[204500]))
+    a_name("65,537 bytes", changed(Dump(), cut=65537), PUMP, "2 0 0")
+
+
+def contexts():
+    entries = [entry(PUMP, b"pump"), entry(INIT, b"init"), entry(ISR, b"isr"), entry(0, b"zero")]
+    said = dict(by=["init", "isr", "thread"], name=[None, "pump", "pump"])
+    each("contexts", holding([slot(INIT), slot(ISR, PUMP), slot(PUMP)], *entries), **said)
+    fields = [slot(ISR, field) for field in (INIT, ISR, 0, PUMP, 1)]
+    each("isr by the field", holding(fields, *entries), by=["isr"] * 5, name=["init", "isr", "zero", "pump", None])
+    inits = [slot(INIT, field) for field in (INIT, ISR, 0, PUMP)]
+    each("init has no name", holding(inits, *entries), by=["init"] * 4, name=[None] * 4)
+    near = [slot(pointer, PUMP) for pointer in (0xF0F0F0F1, 0xF0F0F0EF, 0xFFFFFFFE, 0x0F0F0F0F, 1)]
+    each("close to init and isr", holding(near, *entries), by=["thread"] * 5, name=[None] * 5)
+    each("thread whose field is another's", holding([slot(VALVE, PUMP), slot(PUMP, VALVE)], *entries),
+         name=[None, "pump"])
+
+
+def neighbours():
+    """The lister keeps the name that it found last."""
+    entries = [entry(PUMP, b"pump"), entry(VALVE, b"valve"), entry(INIT, b"init"), entry(0, b"zero"), entry(ISR, b"")]
+    rows = {
+        "same pointer": ([slot(PUMP)] * 4, ["pump"] * 4),
+        "alternating pointers": ([slot(PUMP), slot(VALVE)] * 3, ["pump", "valve"] * 3),
+        "named and not": ([slot(ALARM), slot(PUMP), slot(ALARM), slot(ALARM), slot(PUMP)],
+                          [None, "pump", None, None, "pump"]),
+        "thread and isr of one": ([slot(PUMP), slot(ISR, PUMP)] * 3, ["pump"] * 6),
+        "isr of another": ([slot(PUMP), slot(ISR, VALVE), slot(PUMP, VALVE), slot(ISR, ALARM)],
+                           ["pump", "valve", "pump", None]),
+        "init, isr of the same, init": ([slot(INIT), slot(ISR, INIT), slot(INIT), slot(INIT, PUMP), slot(ISR, INIT)],
+                                        [None, "init", None, None, "init"]),
+        "isr of init, then init": ([slot(ISR, INIT), slot(INIT, INIT), slot(ISR, INIT)], ["init", None, "init"]),
+        "init between threads": ([slot(PUMP), slot(INIT, PUMP), slot(PUMP), slot(INIT, INIT), slot(ISR, PUMP)],
+                                 ["pump", None, "pump", None, "pump"]),
+        "isr of 0 first": ([slot(ISR, 0), slot(ISR, 0), slot(PUMP), slot(ISR, 0)], ["zero", "zero", "pump", "zero"]),
+        "isr of isr": ([slot(ISR, ISR), slot(ISR, PUMP), slot(ISR, ISR), slot(PUMP, ISR)], ["", "pump", "", "pump"]),
+        "empty name and none": ([slot(ISR, ISR), slot(ALARM), slot(ISR, ISR), slot(ISR, ALARM)], ["", None, "", None]),
+    }
+    for title, (slots, names) in rows.items():
+        a_listing(f"neighbours: {title}", holding(slots, *entries), dict(name=names))
+        turned = holding(slots[2:] + slots[:2], *entries, current=len(slots) - 2)
+        a_listing(f"neighbours: {title}, gone round", turned, dict(name=names))
+
+
+def registries():
+    """Which entry's name is found, by pointer and in a listing."""
+    rows = {
+        "no entries": ([], None),
+        "removed": ([entry(PUMP, b"old", flag=1)], None),
+        "flag 0": ([entry(PUMP, b"pump", flag=0)], 0),
+        "flag 2": ([entry(PUMP, b"pump", flag=2)], 0),
+        "flag 255": ([entry(PUMP, b"pump", flag=255)], 0),
+        "a queue": ([entry(PUMP, b"queue", kind=2)], None),
+        "type 14": ([entry(PUMP, b"last", kind=14)], None),
+        "type 21": ([entry(PUMP, b"more", kind=21)], None),
+        "another pointer": ([entry(PUMP + 1, b"next")], None),
+        "two with one pointer": ([entry(PUMP, b"pump"), entry(PUMP, b"late")], 0),
+        "the lowest removed": ([entry(PUMP, b"old", flag=1), entry(PUMP, b"pump")], 1),
+        "the lowest a queue": ([entry(PUMP, b"queue", kind=2), entry(PUMP, b"pump"), entry(PUMP, b"late")], 1),
+        "removed, queue, thread": ([entry(PUMP, b"old", 1), entry(PUMP, b"queue", 0, 2), entry(PUMP, b"pump", 2)], 2),
+        "a removed one of a bad type": ([entry(PUMP, b"old", 1, 99), entry(VALVE, b"valve"), entry(PUMP, b"pump")], 2),
+    }
+    for title, (entries, index) in rows.items():
+        dump = holding([slot(PUMP), slot(ISR, PUMP)], *entries)
+        called = None if index is None else "pump"
+        a_name(f"registry: {title}", dump, PUMP, "null 0" if index is None else f'"pump" 4 {64 + 24 * index}')
+        each(f"registry: {title}", dump, name=[called, called])
+
+
+def names():
+    """A name runs to its first zero byte or the name size; its text is escaped."""
+    rows = [
+        ("empty", 8, b"", '"" 0'),
+        ("zero byte first", 8, b"\0pump", '"" 0'),
+        ("bytes past the first zero", 8, b"pu\0mp\0\0x", '"pu" 2'),
+        ("full size 4", 4, b"pump", '"pump" 4'),
+        ("full size 8", 8, b"abcdefgh", '"abcdefgh" 8'),
+        ("full size 64", 64, b"0123456789abcdef" * 4, '"' + "0123456789abcdef" * 4 + '" 64'),
+        ("one below full size 64", 64, b"z" * 63, '"' + "z" * 63 + '" 63'),
+        ("one byte of 64", 64, b"z", '"z" 1'),
+        ("document 01's escapes", 8, b'A"\n', r'"A\"\u000a" 3'),
+        ("backslashes", 8, b"\\\\\\", r'"\\\\\\" 3'),
+        ("solidus", 8, b"a/b", '"a/b" 3'),
+        ("edges of the plain bytes", 8, b"\x1f\x20\x7e\x7f", r'"\u001f ~\u007f" 4'),
+        ("high bytes", 8, b"\x80\xff\xc3\xa9", r'"\u0080\u00ff\u00c3\u00a9" 4'),
+        ("controls", 8, b"\b\f\r\t\x01", r'"\u0008\u000c\u000d\u0009\u0001" 5'),
+        ("64 bytes of ff", 64, b"\xff" * 64, '"' + r"\u00ff" * 64 + '" 64'),
+        ("null by name", 8, b"null", '"null" 4'),
+    ]
+    for title, size, called, by_hand in rows:
+        dump = holding([slot(PUMP), slot(ISR, PUMP)], entry(PUMP, called), entry(VALVE, b"next"), size=size)
+        a_name(f"name: {title}", dump, PUMP, by_hand + " 64")
+        said = dict(name=[json.loads(by_hand.rsplit(" ", 1)[0])] * 2)
+        for room in (some, exact, short, plenty):
+            a_listing(f"name: {title}, {room.__name__}", dump, "16 0 0" if room is short else said, room=room)
+    last = holding([slot(VALVE)], entry(PUMP, b"pump"), entry(VALVE, b"valves!!"))
+    a_name("name: full size before the slots", last, VALVE, '"valves!!" 8 88')
+    four = [bytes(range(max(1, first), first + 64)) for first in (0, 64, 128, 192)]
+    every = holding([slot(PUMP + i) for i in range(4)], *[entry(PUMP + i, four[i]) for i in range(4)], size=64)
+    a_listing("name: every byte", every, dict(name=[called.decode("latin-1") for called in four]))
+    many = holding([slot(PUMP + 99), slot(PUMP), slot(PUMP + 100)],
+                   *[entry(PUMP + i, b"%d" % i) for i in range(100)], size=4)
+    a_name("many entries, the first", many, PUMP, '"0" 1 64')
+    a_name("many entries, the last", many, PUMP + 99, '"99" 2 2044')
+    a_name("many entries, none", many, PUMP + 100, "null 0")
+    a_listing("many entries, listing", many, dict(name=["99", "0", None]))
+
+
+def finding():
+    """The pointer given is matched whatever its context; 12 and 13 are not asked."""
+    entries = [entry(0, b"zero"), entry(ISR, b"isr"), entry(INIT, b"init")]
+    dump = holding([slot()], *entries)
+    a_name("find pointer 0", dump, 0, '"zero" 4 64')
+    a_name("find pointer 0xffffffff", dump, ISR, '"isr" 3 88')
+    a_name("find pointer 0xf0f0f0f0", dump, INIT, '"init" 4 112')
+    a_name("find no such pointer", dump, PUMP, "null 0")
+    for pointer in (0, ISR, INIT):
+        a_name(f"find {pointer:#x} where no entry has it", holding([slot()], entry(PUMP, b"pump")), pointer, "null 0")
+    a_name("find where 12 is broken", Dump().use(1, 3).at(2), PUMP, '"pump" 4 64')
+    a_name("find where 13 is broken", no_id(1), PUMP, '"pump" 4 64')
+    a_name("find none where 12 is broken", Dump().use(1, 3).at(2), ALARM, "null 0")
+    top = Dump(entries=4, slots=4, name_size=4, base=0xFFFFFF00)
+    a_name("find at the top of memory", top, PUMP + 3, '"pump" 4 124')
+
+
+def times():
+    each("time: 65500, 20 under 0xFFFF", stamped(65500, 20), ticks=[0, 56], us=[0, 56])
+    each("time: equal stamps", stamped(77, 77, 77), ticks=[0, 0, 0])
+    each("time: bits above the mask", stamped(0x1234FFDC, 0xABCD0014, 0x00000014), ticks=[0, 56, 56])
+    each("time: bits above the mask, back", stamped(0xFFFF0005, 0x00000004), ticks=[0, 65535])
+    each("time: wraps several times", stamped(0, 65535, 0, 65535, 40000, 30000, 30000),
+         ticks=[0, 65535, 65536, 131071, 171072, 226608, 226608])
+    each("time: mask 0x1", stamped(0, 1, 1, 0, 0x10, 7, mask=0x1), ticks=[0, 1, 1, 2, 2, 3])
+    each("time: mask 0x7", stamped(7, 0, 15, 6, 6, 0xFFFFFFFF, mask=0x7), ticks=[0, 1, 8, 15, 15, 16])
+    each("time: mask 0xffffffff", stamped(0xFFFFFFFF, 0, 0x80000000, 0, mask=0xFFFFFFFF),
+         ticks=[0, 1, 2147483649, 4294967297])
+    each("time: all ones back by one", stamped(5, 4, 3, 2, mask=0xFFFFFFFF),
+         ticks=[0, 4294967295, 8589934590, 12884901885])
+    third = Reading(rate=3, unit=0, serial=0)
+    each("time: microseconds are not summed by gap", stamped(0, 1, 2, 3, 4), third,
+         us=[0, 333333, 666666, 1000000, 1333333])
+    each("time: oldest is not slot 0", holding([slot(stamp=s) for s in (30, 65500, 20)], current=1), ticks=[0, 56, 66])
+
+
+def rates():
+    """9007199254 and 9007199255 ticks: the last microseconds that are printed bare at rate 1, and the first not."""
+    limit = stamped(0, 4294967295, 4294967294, 417264662, 417264663, mask=0xFFFFFFFF)
+    ticks = [0, 4294967295, 8589934590, 9007199254, 9007199255]
+    each("rate 1", limit, Reading(1, 0, 0), ticks=ticks,
+         us=[0, 4294967295000000, 8589934590000000, 9007199254000000, "9007199255000000"])
+    each("rate 2", limit, Reading(2, 0, 0),
+         us=[0, 2147483647500000, 4294967295000000, 4503599627000000, 4503599627500000])
+    each("rate 4294967295", limit, Reading(4294967295, 0, 0), ticks=ticks, us=[0, 1000000, 2000000, 2097152, 2097152])
+    each("rate 7", stamped(0, 1, 8, 9), Reading(7, 0, 0), us=[0, 142857, 1142857, 1285714])
+    each("rate 1000001", stamped(0, 1, 2), Reading(1000001, 0, 0), us=[0, 0, 1])
+    each("rate 999999", stamped(0, 1, 2), Reading(999999, 0, 0), us=[0, 1, 2])
+    far = stamped(*[(-i) % 2**32 for i in range(12)], mask=0xFFFFFFFF)
+    steps = [4294967295 * i for i in range(12)]
+    quoted = ["12884901885000000", *[str(1000000 * ticks) for ticks in steps[4:]]]
+    said = dict(ticks=steps, us=[0, 4294967295000000, 8589934590000000, *quoted])
+    a_listing("rate 1, far", far, said, Reading(1, 0, 0))
+    a_line("rate 1, far, line 11", far, 11, dict(ticks=[47244640245], us=["47244640245000000"]), Reading(1, 0, 0))
+    an_event("rate 1, far, event 11", far, 11, dict(ticks=[47244640245]))
+
+
+def keys():
+    two = stamped(1, 2)
+    one = stamped(1)
+    each("key: unit 0", two, Reading(1, 0, 0), key=[0, 1])
+    each("key: unit 1", two, Reading(1, 1, 5), key=[1099511627781, 1099511627782])
+    each("key: unit 8191", two, Reading(1, 8191, 0), key=[9006099743113216, 9006099743113217])
+    each("key: unit 8191, last serials", two, Reading(1, 8191, TWO_40 - 2), key=[9007199254740990, 9007199254740991])
+    each("key: unit 8192", two, Reading(1, 8192, 0), key=[BARE, "9007199254740993"])
+    each("key: unit 16777215", two, Reading(1, 16777215, 0), key=["18446742974197923840", "18446742974197923841"])
+    each("key: unit 16777215, last serial", one, Reading(1, 16777215, TWO_40 - 1), key=["18446744073709551615"])
+    each("key: serial 1099511627775, one event", one, Reading(1, 0, 1099511627775), key=[1099511627775])
+    both("key: serial 1099511627775, two events", two, Reading(1, 0, 1099511627775), "15 0 0")
+    both("key: serial 1099511627776, one event", one, Reading(1, 0, 1099511627776), "15 0 0")
+    a_listing("key: serial 1099511627776, no event", Dump(), "0 0", Reading(1, 0, 1099511627776))
+    a_line("key: serial 1099511627776, no event, line", Dump(), 0, "25 0 0", Reading(1, 0, 1099511627776))
+    for title, dump in (("no event", Dump()), ("one event", one), ("two events", two)):
+        both(f"key: serial 1099511627777, {title}", dump, Reading(1, 0, 1099511627777), "15 0 0")
+        both(f"key: serial 18446744073709551615, {title}", dump, Reading(1, 0, LAST), "15 0 0")
+        both(f"key: serial 18446744073709551614, {title}", dump, Reading(1, 0, LAST - 1), "15 0 0")
+        both(f"key: unit 16777216, {title}", dump, Reading(1, 16777216, 0), "15 0 0")
+        both(f"key: unit 4294967295, {title}", dump, Reading(1, 4294967295, 0), "15 0 0")
+
+
+def no_id(*indices):
+    dump = Dump().use(0, 1, 2).at(3)
+    for i in indices:
+        dump.slots[i][2] = 0
+    return dump
+
+
+def bad_type(*indices):
+    dump = Dump().use(0, 1).at(2)
+    for i in indices:
+        dump.entries[i][1] = 15
+    return dump
+
+
+def broken():
+    """A dump for each number from 1 to 13, by the refusal; 2 takes a dump of its own."""
+    cut = lambda length: changed(Dump().use(0, 1).at(2), cut=length)
+    return [
+        ("1 0", "no bytes", cut(0)), ("1 0", "47 bytes", cut(47)), ("3 0", "id", changed(Dump(), id=0)),
+        ("4 0", "mask 0", changed(Dump(), mask=0)), ("4 0", "mask 0x5", changed(Dump(), mask=5)),
+        ("5 0", "name size", changed(Dump(), name_size=6)), ("6 0", "registry start", shifted("registry_start", 4)),
+        ("7 0", "registry end", shifted("registry_end", 1)), ("7 0", "48 bytes", cut(48)),
+        ("8 0", "buffer start", shifted("buffer_start", 32)), ("9 0", "buffer end", shifted("buffer_end", 32)),
+        ("10 0", "current", shifted("current", 16)), ("11 0", "type", bad_type(0)), ("11 1", "types", bad_type(1, 2)),
+        ("11 2", "last type", bad_type(2)), ("12 0", "slots", Dump().use(1, 3).at(2)),
+        ("12 3", "last slot", Dump().use(0, 1, 2).at(1)), ("12 2", "gap", Dump().use(0, 1).at(3)),
+        ("13 0", "event id", no_id(0)), ("13 1", "event ids", no_id(1, 2)), ("13 2", "last event id", no_id(2)),
+    ]
+
+
+def refusals():
+    for refusal, title, dump in broken():
+        title = f"refusal {refusal}, {title}"
+        an_event(f"{title}, event", dump, 0, refusal)
+        both(title, dump, PLAIN, f"{refusal} 0")
+        if int(refusal.split()[0]) <= 11:
+            a_name(f"{title}, name", dump, PUMP, f"{refusal} 0")
+    both("refusal 14", stamped(1, 2), Reading(0, 0, 0), "14 0 0")
+    both("refusal 14, empty ring", Dump(), Reading(0, 0, 0), "14 0 0")
+
+
+def orders():
+    """Two rows broken at once: the one that the call asks first is given."""
+    rateless, wide, both_bad = Reading(0, 0, 0), Reading(1, 1 << 24, 0), Reading(0, 1 << 24, LAST)
+    ring = stamped(1, 2)
+    both("14 before 15", ring, both_bad, "14 0 0")
+    both("13 before 14", no_id(1), rateless, "13 1 0")
+    both("12 before 14", Dump().use(1, 3).at(2), rateless, "12 0 0")
+    both("11 before 14", bad_type(1), both_bad, "11 1 0")
+    both("1 before 14", changed(Dump(), cut=47), both_bad, "1 0 0")
+    a_listing("14 before 16, listing", ring, "14 0 0", rateless, of(0))
+    a_listing("15 before 16, listing", ring, "15 0 0", wide, of(0))
+    a_listing("13 before 16, listing", no_id(0), "13 0 0", PLAIN, of(0))
+    for position in (2, LAST):
+        an_event(f"11 before 25, event {position}", bad_type(1), position, "11 1")
+        an_event(f"12 before 25, event {position}", Dump().use(1, 3).at(2), position, "12 0")
+        an_event(f"13 before 25, event {position}", no_id(1), position, "13 1")
+        a_line(f"13 before 25, line {position}", no_id(1), position, "13 1 0")
+        a_line(f"14 before 25, line {position}", ring, position, "14 0 0", rateless, of(0))
+        a_line(f"15 before 25, line {position}", ring, position, "15 0 0", wide, of(0))
+        a_line(f"25 before 16, line {position}", ring, position, "25 0 0", PLAIN, of(0))
+
+
+def rooms():
+    ring = holding([slot(PUMP), slot(ISR, PUMP), slot(ALARM)], entry(PUMP, b"pump"))
+    for room in (0, 1, 2, 50):
+        a_listing(f"room {room}, listing", ring, "16 0 0", room=of(room))
+        a_line(f"room {room}, line", ring, 1, "16 0 0", room=of(room))
+    for title, room in (("exact", exact), ("some", some), ("2099", of(2099)), ("2100", of(2100)), ("9999", of(9999))):
+        a_listing(f"room {title}, listing", ring, dict(name=["pump", "pump", None]), room=room)
+    a_listing("room short, listing", ring, "16 0 0", room=short)
+    for position in range(3):
+        a_line(f"room short, line {position}", ring, position, "16 0 0", room=short)
+        a_line(f"room exact, line {position}", ring, position, dict(key=[position]), room=exact)
+        a_line(f"room 9999, line {position}", ring, position, dict(key=[position]), room=of(9999))
+    length = len("".join(line(i, 0, 0, 5, PUMP, 2, 16, (1, 2, 3, 4), None) for i in range(3)))
+    plain = stamped(100, 100, 100)
+    for room in (length - 1, length, length + 1):
+        said = "16 0 0" if room < length else dict(key=[0, 1, 2])
+        a_listing(f"room {room} for {length}", plain, said, room=of(room))
+    longest = holding([[ISR, ISR, ISR, -i % 2**32, *[ISR] * 4] for i in range(4)], entry(ISR, b"\xff" * 64), size=64,
+                      mask=0xFFFFFFFF)
+    reading = Reading(rate=1, unit=16777215, serial=TWO_40 - 4)
+    for room in (exact, some, plenty):
+        a_listing(f"longest lines, {room.__name__}", longest, dict(name=["\xff" * 64] * 4), reading, room)
+        a_line(f"longest line, {room.__name__}", longest, 3, dict(key=["18446744073709551615"]), reading, room)
+    a_listing("longest lines, short", longest, "16 0 0", reading, short)
+    a_line("longest line, short", longest, 3, "16 0 0", reading, short)
+
+
+def positions():
+    ring = numbered(3, 3, 1)
+    for position in (0, 1, 2):
+        an_event(f"position {position} of 3, event", ring, position, dict(id=[[2, 3, 1][position]]))
+        a_line(f"position {position} of 3, line", ring, position, dict(id=[[2, 3, 1][position]]))
+    for position in (3, 4, 1 << 32, (1 << 32) + 1, 1 << 63, LAST):
+        an_event(f"position {position} of 3, event", ring, position, "25 0")
+        a_line(f"position {position} of 3, line", ring, position, "25 0 0")
+
+
+# Seeded cases.
+
+POINTERS = (PUMP, VALVE, ALARM, INIT, ISR, 1)
+
+
+def seeded_dump(chance):
+    """A dump with names, pointers that repeat, any stamps and words, and now and then some damage."""
+    dump = Dump(chance.below(7), 1 + chance.below(chance.one(8, 8, 8, 8, 24)), 4 + 4 * chance.below(16),
+                chance.one(0, 0x20000000, 0xFFFFFF00, 0xFFFFFFE0, chance.below(1 << 31)))
+    current = chance.below(len(dump.slots))
+    dump.at(current).mask = (1 << 1 + chance.below(32)) - 1
+    for i in range(chance.one(current, len(dump.slots), len(dump.slots))):
+        dump.slots[i] = [chance.one(*POINTERS), chance.one(0, *POINTERS), 1 + chance.below(2000),
+                         *(chance.bits(32) for _ in range(5))]
+    for i in range(len(dump.entries)):
+        called = chance.bytes(chance.below(dump.name_size + 1)) + chance.one(b"", b"\0x")
+        dump.entries[i] = [chance.one(0, 0, 1, 2, 255), chance.one(1, 1, 1, 2, 28), chance.bytes(2),
+                           chance.one(0, *POINTERS), chance.bits(32), chance.bits(32), called[:dump.name_size]]
+    dump.reserved = [chance.bits(16), *(chance.bits(32) for _ in range(3))]
+    dump.tail = chance.bytes(chance.below(3) * 11)
+    for _ in range(chance.one(0, 0, 0, 0, 0, 0, 1, 2)):
+        damage(dump, chance)
+    return dump
+
+
+def seeded_reading(chance, count):
+    """A reading that is mostly accepted with so many events."""
+    rate = chance.one(1, 1, 3, 1000000, 3000000, 4294967295, chance.below(2), *(1 + chance.bits(31) for _ in range(5)))
+    unit = chance.one(0, 8191, 8192, 16777215, *(chance.bits(24) for _ in range(6)), chance.bits(26))
+    serial = chance.one(0, *(chance.bits(39) for _ in range(6)), *[TWO_40 - count] * 3, TWO_40 - count + 1,
+                        chance.bits(64))
+    return Reading(rate, unit, serial)
+
+
+def seeded(index, chance, order):
+    """A seeded case of any kind, by its dump as it is in one order."""
+    dump = seeded_dump(chance)
+    try:
+        count = len(read_events(dump.bytes(order)))
+    except Refused:
+        count = 0
+    reading = seeded_reading(chance, count)
+    room = chance.one(some, some, some, exact, exact, exact, plenty, plenty, short, of(chance.below(400)))
+    position = chance.below(max(count, 1) + chance.one(0, 0, 0, 2))
+    return Case(f"seeded {index}", chance.one("e", "n", "l", "l", "a", "a"), dump, reading, position,
+                chance.one(0, *POINTERS), room, None)
+
+
+# The replies.
+
+def called(found):
+    return name(None if found is None else found.bytes)
+
+
+def event_reply(raw, case, room):
+    event = one_event(raw, case.position)
+    return " ".join([*map(str, event.words), str(event.ticks), CONTEXTS[event.by], called(event.name)])
+
+
+def name_reply(raw, case, room):
+    found = find_name(raw, case.pointer)
+    return "null 0" if found is None else f"{called(found)} {len(found.bytes)} {found.place}"
+
+
+def line_reply(raw, case, room):
+    text = one_line(raw, case.reading, case.position, room)
+    read_back(text, *read_fields(raw, case.reading)[case.position])
+    return written(text)
+
+
+def listing_reply(raw, case, room):
+    text = listing(raw, case.reading, room)
+    lines, said = text.splitlines(keepends=True), read_fields(raw, case.reading)
+    assert len(lines) == len(said)
+    for one, values in zip(lines, said):
+        read_back(one, *values)
+    return written(text)
+
+
+REPLIES = {"e": event_reply, "n": name_reply, "l": line_reply, "a": listing_reply}
+
+
+def reply(raw, case, room):
+    """What the program must print after the case's name."""
+    try:
+        return REPLIES[case.kind](raw, case, room)
+    except Refused as refusal:
+        return str(refusal) if case.kind == "e" else f"{refusal} 0"
+
+
+def room_of(raw, case):
+    """The output's size: by the text, where there is one."""
+    try:
+        said = read_fields(raw, case.reading)
+        texts = [line(*values) for values in said]
+        texts = texts if case.kind == "a" else [texts[case.position]]
+    except (Refused, IndexError):
+        texts = ["." * 300]
+    return case.room(sum(map(len, texts)), len(texts))
+
+
+def parts(case, given):
+    """The events of a reply, each by the names of its fields."""
+    if case.kind != "e":
+        return [json.loads(text) for text in given.split("\n")[1:]]
+    *words, ticks, by, text = given.split(" ", 10)
+    ptr, field, ident, _, *info = map(int, words)
+    return [dict(ptr=ptr, field=field, id=ident, info=info, ticks=int(ticks), by=by, name=json.loads(text))]
+
+
+def agrees(case, given):
+    """Whether a reply is what the case says by hand."""
+    if case.by_hand is None or isinstance(case.by_hand, str):
+        return case.by_hand in (None, given)
+    events = parts(case, given)
+    return all([event[field] for event in events] == values for field, values in case.by_hand.items())
+
+
+def add(case, order, title, data, lines):
+    """Puts a case into the file, and what it must print into the lines."""
+    raw = case.dump.bytes(order)
+    room = room_of(raw, case)
+    given = reply(raw, case, room)
+    if not agrees(case, given):
+        sys.exit(f"{title}: by hand {case.by_hand}, by rule {given}")
+    data += struct.pack("B", len(title)) + title.encode() + case.kind.encode()
+    data += struct.pack("<IIQQIII", *case.reading, case.position, case.pointer, room, len(raw)) + raw
+    lines.append(f"{title}: {given}\n")
+
+
+GROUPS = (whole_case, rings, contexts, neighbours, registries, names, finding, times, rates, keys, refusals, orders,
+          rooms, positions)
+data, lines = bytearray(), []
+for group in GROUPS:
+    group()
+for order, word in WORDS.items():
+    for case in CASES:
+        add(case, order, f"{case.name}, {word}", data, lines)
+
+# The large dumps in one order only.
+CASES.clear()
+full()
+for case in CASES:
+    add(case, "<", case.name, data, lines)
+
+chance = Chance(2027)
+for index in range(300):
+    order = chance.one("<", ">")
+    case = seeded(index, chance, order)
+    add(case, order, case.name, data, lines)
+
+keep(__file__, {"data/cases": bytes(data), "stdout": "".join(lines).encode()}, f"{len(lines)} cases, {len(data)} bytes")

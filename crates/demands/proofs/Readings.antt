@@ -1,0 +1,70 @@
+-- What is listed, and when it happened, is as document 01 says.
+use Prim.Native.Nat.{ℕ, suc, _+_, _*_, _^_, _≤_, _<_}
+use mathlib.Core.Bool.{Bool, true, false, cond, _||_, true≢false}
+use mathlib.Core.List.{List}
+use mathlib.Core.Path.{_≡_, refl, sym}
+use native.Mathlib.Nat.{div-mul-le-self, div-add-mod', mod-lt, suc-mul}
+use native.Mathlib.Omega.{arith}
+use borrow.Author.Tests.{leb-false, ltb-false, ltb-true}
+use lib.Dec.{leb, ltb}
+use lib.ListN.{length}
+use Rattle.rows.proofs.Lowest.{lowest-le}
+use Rattle.rows.specs.Rows.{firstBroken}
+use Rattle.rows.specs.declared.Verdict.the-variants.{Passed}
+use Rattle.trace.proofs.Passed.{entry-within, registry-passed}
+use Rattle.trace.proofs.Ring.{count-is, events-most, first-count, first-slot, round-count, round-slot}
+use Rattle.trace.proofs.Times.{product-below}
+use Rattle.trace.specs.Keys.{key}
+use Rattle.trace.specs.Layout.{entryCount}
+use Rattle.trace.specs.Names.{entryName, isZeroAt, nameAt, nameOf, nameSize, nameStart, threadEntry}
+use Rattle.trace.specs.Slots.{eventCount}
+use Rattle.trace.specs.Table.{dumpRows, row15}
+use Rattle.trace.specs.Times.{gap, microseconds}
+use Rattle.trace.specs.declared.Header.{Header}
+use Rattle.trace.specs.declared.Name.the-variants.{Nameless}
+use Rattle.words.proofs.Circles.{minus-gone, minus-low}
+use Rattle.words.specs.Masks.{width}
+use Rattle.demands.specs.Readings.{Readings}
+
+not-below : (ticks rate : ℕ) → 1 ≤ rate → ticks * 1000000 < suc (microseconds ticks rate) * rate
+unfolding microseconds
+not-below ticks rate some = rw suc-mul (omega (arith, div-add-mod' (ticks * 1000000) rate, mod-lt (ticks * 1000000) some))
+
+module _ (s : List ℕ) (h : Header) (passed : firstBroken (dumpRows s h) ≡ Passed) where
+  within : (pointer : ℕ) → nameStart (nameOf s h pointer) + nameSize (nameOf s h pointer) ≤ length s
+  unfolding nameOf
+  within pointer = by (ltb (threadEntry s h pointer) (entryCount h)) refl
+    where
+      entry : ℕ
+      entry = threadEntry s h pointer
+
+      by : (found : Bool) → ltb (threadEntry s h pointer) (entryCount h) ≡ found
+          → nameStart (cond found (entryName s h (threadEntry s h pointer)) Nameless) + nameSize (cond found (entryName s h (threadEntry s h pointer)) Nameless) ≤ length s
+      by true e =
+          omega (arith, entry-within s h (registry-passed s h passed) (threadEntry s h pointer) (ltb-true _ _ e), lowest-le (isZeroAt s (nameAt h (threadEntry s h pointer))) (h .«name_size»))
+      by false e = omega arith
+
+  fits : (unit serial p : ℕ) → row15 unit serial (eventCount s h) .broken ≡ false → p < eventCount s h → key unit serial p < 2 ^ 64
+  unfolding row15 key
+  fits unit serial p kept below = by (leb (2 ^ 24) unit) refl kept
+    where
+      by : (wide : Bool) → leb (2 ^ 24) unit ≡ wide → (wide || ltb (2 ^ 40) (serial + eventCount s h)) ≡ false → unit * 2 ^ 40 + (serial + p) < 2 ^ 64
+      by true e many = absurd (true≢false many)
+      by false e many = omega (arith, leb-false (2 ^ 24) unit e, ltb-false (2 ^ 40) (serial + eventCount s h) many)
+
+  pub readings : Readings s h
+  unfolding gap microseconds key
+  readings = record {
+    all-listed = sym (count-is s h passed);
+    at-most = events-most s h passed;
+    gone-round = λ used. (round-count s h passed used, round-slot s h passed used);
+    not-round = λ unused. (first-count s h passed unused, first-slot s h passed unused);
+    under-mask = λ earlier later. minus-low (width (h .mask)) later earlier;
+    time-gone = λ stamp gone below. minus-gone (width (h .mask)) stamp gone below;
+    product = product-below s h passed;
+    not-above = λ ticks rate some. div-mul-le-self (ticks * 1000000) rate;
+    not-below = not-below;
+    name-within = within;
+    key-fits = fits;
+    key-differs = λ unit serial p q same. omega arith;
+  }

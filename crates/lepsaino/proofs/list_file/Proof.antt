@@ -1,0 +1,51 @@
+-- `lepsaino::list_file` is safe: what was read lies within the space.
+use mathlib.Core.Path.{sym}
+use lib.Seq.{length-take-le}
+use borrow.Author.Needs.{needs}
+use Rattle.lepsaino.proofs.list_file.Statement.{statement}
+use Rattle.lepsaino.proofs.list_file.Tie as tie
+
+slice-aggregate-read-all : tie.Need-slice-aggregate-read-all
+slice-aggregate-read-all c = search needs
+
+read-all-requires : tie.Need-read-all-requires
+read-all-requires c κs = search needs
+
+enum-told : tie.Need-enum-told
+enum-told c = search needs
+
+fail-requires : tie.Need-fail-requires
+fail-requires c κs = search needs
+
+enum-known-n : tie.Need-enum-known-n
+enum-known-n c = search needs
+
+array-share-prefix-space : tie.Need-array-share-prefix-space
+array-share-prefix-space c = rw (c .before .n .given .1) at (c .before .before .before .before .read-all .ensures)
+
+slice-aggregate-print-listing : tie.Need-slice-aggregate-print-listing
+slice-aggregate-print-listing c = sym (length-take-le _ _ (rw (c .before .before .n .given .1) at (c .before .before .before .before .before .read-all .ensures)))
+
+print-listing-requires : tie.Need-print-listing-requires
+print-listing-requires c κs = search needs
+
+returns : tie.Need-returns
+returns c = search needs
+
+returns-2 : tie.Need-returns-2
+returns-2 c = search needs
+
+pub list-file-spec : {M : Type 1} → statement M
+list-file-spec =
+    tie.close
+    (tie.spec
+    slice-aggregate-read-all
+    read-all-requires
+    enum-told
+    fail-requires
+    enum-known-n
+    array-share-prefix-space
+    slice-aggregate-print-listing
+    print-listing-requires
+    returns
+    returns-2)

@@ -1,0 +1,10 @@
+-- What was read of a file lies within the space for it.
+use Prim.Native.Nat.{ℕ, _≤_}
+use mathlib.Core.List.{List}
+use lib.ListN.{length}
+use Rattle.lepsaino.specs.declared.Took.{Took}
+use Rattle.lepsaino.specs.declared.Took.the-variants.{Bytes, Failed}
+
+abbrev pub Within : Took → List ℕ → Type 0
+Within (Bytes n) space = n ≤ length space
+Within Failed space = Unit {0}

@@ -1,0 +1,37 @@
+// Numbers among the program's arguments.
+use crate::Argument;
+ghost use mathlib.Core.Path.{_≡_};
+ghost use Rattle.lepsaino.specs.Arguments.{argumentOf, isDigit};
+
+fn is_digit(b: u8) -> bool
+    ensures { λ r. ⌜ r ≡ isDigit b ⌝ }
+{
+    rows::both(48 <= b, b <= 57)
+}
+
+// The number that digits stand for, if there are some, and it is at most so much.
+pub fn number_in(text: &[u8], most: u64) -> Argument
+    ensures { λ r. ⌜ r ≡ argumentOf (now (text .entry)) most ⌝ }
+{
+    if text.len() == 0 {
+        return Argument::Wrong;
+    }
+    let mut value = 0u64;
+    let mut i = 0;
+    while i < text.len() {
+        let b = text[i];
+        if !is_digit(b) {
+            return Argument::Wrong;
+        }
+        let digit = (b - 48) as u64;
+        if digit > most {
+            return Argument::Wrong;
+        }
+        if value > (most - digit) / 10 {
+            return Argument::Wrong;
+        }
+        value = value * 10 + digit;
+        i += 1;
+    }
+    Argument::Number(value)
+}

@@ -1,0 +1,59 @@
+-- What a call gives by rows, some of which it has checked already.
+use Prim.Native.Nat.{ℕ, _≤_, _<_}
+use mathlib.Core.List.{List, [], _∷_, _++_}
+use mathlib.Core.Path.{_≡_, refl, sym, _∙_}
+use borrow.Author.Tests.{le-leb, le-ltb, lt-leb, lt-ltb}
+use lib.ListN.{length}
+use Rattle.rows.proofs.Rows.{from-start, then-more, then-refused}
+use Rattle.rows.specs.Rows.{Row, firstBroken}
+use Rattle.rows.specs.declared.Refusal.{Refusal}
+use Rattle.rows.specs.declared.Verdict.the-variants.{Passed, Refused}
+use Rattle.text.proofs.Output.{is-put, not-put, some-said, zero-said}
+use Rattle.text.specs.Output.{Put, printed}
+use Rattle.trace.specs.Table.{row16, row25}
+use Rattle.events.specs.Listing.{Gave}
+use Rattle.events.specs.declared.Listed.{Listed}
+use Rattle.events.specs.declared.Listed.the-variants as listed
+
+module _ (rs more : List Row) {text old : List ℕ} where
+  -- an earlier refusal stays
+  pub gave-refused : (f : Refusal) → firstBroken rs ≡ Refused f → Gave (rs ++ more) text old old (listed.Refused f)
+  gave-refused f refused =
+      let verdict = then-refused rs more f refused in
+      record { answered = rw (← verdict); output = rw (← verdict) }
+
+  -- rows that have passed leave the answer to the others
+  pub gave-more : {new : List ℕ} {said : Listed} → firstBroken rs ≡ Passed → Gave more text old new said → Gave (rs ++ more) text old new said
+  gave-more passed gave =
+      let same : firstBroken more ≡ firstBroken (rs ++ more) = sym (from-start more) ∙ then-more rs more passed in
+      record { answered = rw same at (gave .answered); output = rw same at (gave .output) }
+
+module _ (text : List ℕ) {old : List ℕ} where
+  pub gave-text : {new : List ℕ} {n : ℕ} → length text ≤ length old → Put text old new n → Gave (row16 (length text) (length old) ∷ []) text old new (listed.Written n)
+  unfolding firstBroken row16
+  gave-text fits put = rw (le-ltb (length old) (length text) fits) record { answered = rw (put .count); output = put .bytes }
+
+  pub gave-none : length old < length text → Gave (row16 (length text) (length old) ∷ []) text old old (listed.Refused (record { number = 16; place = 0 }))
+  unfolding firstBroken row16
+  gave-none long = rw (lt-ltb (length old) (length text) long) record { answered = refl; output = refl }
+
+  -- by the answer of a printer: 0 says that there was no room, since no text is empty
+  pub gave-zero : {new : List ℕ} {n : ℕ} → 1 ≤ length text → Put (printed text old) old new n → n ≡ 0
+      → Gave (row16 (length text) (length old) ∷ []) text old new (listed.Refused (record { number = 16; place = 0 }))
+  gave-zero filled put none =
+      let long = zero-said text old filled put none in
+      rw (not-put text old long put .1) (gave-none long)
+
+  pub gave-some : {new : List ℕ} {n : ℕ} → Put (printed text old) old new n → (n ≡ 0 → ⊥) → Gave (row16 (length text) (length old) ∷ []) text old new (listed.Written n)
+  gave-some put some =
+      let fits = some-said text old put some in
+      gave-text fits (is-put text old fits put)
+
+-- whether there is an event at a position
+pub no-event : (position events : ℕ) → events ≤ position → firstBroken (row25 position events ∷ []) ≡ Refused (record { number = 25; place = 0 })
+unfolding firstBroken row25
+no-event position events beyond = rw (le-leb events position beyond)
+
+pub an-event : (position events : ℕ) → position < events → firstBroken (row25 position events ∷ []) ≡ Passed
+unfolding firstBroken row25
+an-event position events within = rw (lt-leb events position within)

@@ -1,0 +1,5 @@
+mod Answers
+mod Fitting
+mod Kept
+mod Lengths
+mod Naming

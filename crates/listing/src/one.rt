@@ -1,0 +1,79 @@
+// One line by position.
+use crate::terms::put_event;
+use crate::terms::reading_verdict;
+use dump::check;
+use events::Listed;
+use events::Reading;
+use rows::Refusal;
+use rows::Verdict;
+use trace::Checked;
+use trace::Header;
+use walk::event_at;
+ghost use mathlib.Core.Path.{_≡_};
+ghost use mathlib.Core.List.{_∷_, []};
+ghost use lib.ListN.{length};
+ghost use Rattle.rows.specs.Rows.{firstBroken};
+ghost use Rattle.rows.specs.declared.Verdict.the-variants.{Passed};
+ghost use Rattle.trace.specs.Layout.{headerOf};
+ghost use Rattle.trace.specs.Slots.{eventCount};
+ghost use Rattle.trace.specs.Table.{dumpRows, row16, row25};
+ghost use Rattle.events.specs.Listing.{Gave, lineAt, lineMore, lineRows};
+ghost use Rattle.listing.specs.Keeps.{Accepted};
+
+// Checks 1 to 15, then 25 and 16, and writes the line of the event at a position.
+pub fn line(dump: &[u8], reading: Reading, position: usize, out: &mut [u8]) -> Listed
+    ensures { λ r. ⌜ Gave (lineRows (now (dump .entry)) (headerOf (now (dump .entry))) reading position (length (now (out .entry)))) (lineAt (now (dump .entry)) (headerOf (now (dump .entry))) reading position) (now (out .entry)) (now (out .exit)) r ⌝ }
+{
+    match check(dump) {
+        Checked::Refused(refusal) => Listed::Refused(refusal),
+        Checked::Sound { header, events } => {
+            line_of_sound(dump, header, events, reading, position, out)
+        }
+    }
+}
+
+fn line_of_sound(
+    dump: &[u8],
+    header: Header,
+    events: usize,
+    reading: Reading,
+    position: usize,
+    out: &mut [u8],
+) -> Listed
+    requires { ⌜ (firstBroken (dumpRows (now dump) header) ≡ Passed) × (events ≡ eventCount (now dump) header) ⌝ }
+    ensures { λ r. ⌜ Gave (lineMore (now (dump .entry)) header reading position (length (now (out .entry)))) (lineAt (now (dump .entry)) header reading position) (now (out .entry)) (now (out .exit)) r ⌝ }
+{
+    match reading_verdict(reading, events) {
+        Verdict::Refused(refusal) => Listed::Refused(refusal),
+        Verdict::Passed => accepted_line(dump, header, events, reading, position, out),
+    }
+}
+
+// Rows 25 and 16.
+fn accepted_line(
+    dump: &[u8],
+    header: Header,
+    events: usize,
+    reading: Reading,
+    position: usize,
+    out: &mut [u8],
+) -> Listed
+    requires { ⌜ Accepted (now dump) header reading events ⌝ }
+    ensures { λ r. ⌜ Gave (row25 position (eventCount (now (dump .entry)) header) ∷ row16 (length (lineAt (now (dump .entry)) header reading position)) (length (now (out .entry))) ∷ []) (lineAt (now (dump .entry)) header reading position) (now (out .entry)) (now (out .exit)) r ⌝ }
+{
+    if events <= position {
+        return Listed::Refused(Refusal {
+            number: 25,
+            place: 0,
+        });
+    }
+    let event = event_at(dump, header, position);
+    let length = put_event(out, dump, event, reading, position);
+    if length == 0 {
+        return Listed::Refused(Refusal {
+            number: 16,
+            place: 0,
+        });
+    }
+    Listed::Written(length)
+}
