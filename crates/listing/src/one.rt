@@ -1,6 +1,6 @@
 // One line by position.
-use crate::terms::put_event;
-use crate::terms::reading_verdict;
+use crate::put_event;
+use crate::reading_verdict;
 use dump::check;
 use events::Listed;
 use events::Reading;
