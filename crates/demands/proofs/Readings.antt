@@ -1,17 +1,17 @@
 -- What is listed, and when it happened, is as document 01 says.
 use Prim.Native.Nat.{ℕ, suc, _+_, _*_, _^_, _≤_, _<_}
-use mathlib.Core.Bool.{Bool, true, false, cond, _||_, true≢false}
+use mathlib.Core.Bool.{Bool, true, false, cond}
 use mathlib.Core.List.{List}
 use mathlib.Core.Path.{_≡_, refl, sym}
 use native.Mathlib.Nat.{div-mul-le-self, div-add-mod', mod-lt, suc-mul}
 use native.Mathlib.Omega.{arith}
-use borrow.Author.Tests.{leb-false, ltb-false, ltb-true}
-use lib.Dec.{leb, ltb}
+use borrow.Author.Tests.{ltb-true}
+use lib.Dec.{ltb}
 use lib.ListN.{length}
 use Rattle.rows.proofs.Lowest.{lowest-le}
 use Rattle.rows.specs.Rows.{firstBroken}
 use Rattle.rows.specs.declared.Verdict.the-variants.{Passed}
-use Rattle.trace.proofs.Passed.{entry-within, registry-passed}
+use Rattle.trace.proofs.Passed.{entry-within, key-terms, registry-passed}
 use Rattle.trace.proofs.Ring.{count-is, events-most, first-count, first-slot, round-count, round-slot}
 use Rattle.trace.proofs.Times.{product-below}
 use Rattle.trace.specs.Keys.{key}
@@ -35,9 +35,6 @@ module _ (s : List ℕ) (h : Header) (passed : firstBroken (dumpRows s h) ≡ Pa
   unfolding nameOf
   within pointer = by (ltb (threadEntry s h pointer) (entryCount h)) refl
     where
-      entry : ℕ
-      entry = threadEntry s h pointer
-
       by : (found : Bool) → ltb (threadEntry s h pointer) (entryCount h) ≡ found
           → nameStart (cond found (entryName s h (threadEntry s h pointer)) Nameless) + nameSize (cond found (entryName s h (threadEntry s h pointer)) Nameless) ≤ length s
       by true e =
@@ -45,12 +42,8 @@ module _ (s : List ℕ) (h : Header) (passed : firstBroken (dumpRows s h) ≡ Pa
       by false e = omega arith
 
   fits : (unit serial p : ℕ) → row15 unit serial (eventCount s h) .broken ≡ false → p < eventCount s h → key unit serial p < 2 ^ 64
-  unfolding row15 key
-  fits unit serial p kept below = by (leb (2 ^ 24) unit) refl kept
-    where
-      by : (wide : Bool) → leb (2 ^ 24) unit ≡ wide → (wide || ltb (2 ^ 40) (serial + eventCount s h)) ≡ false → unit * 2 ^ 40 + (serial + p) < 2 ^ 64
-      by true e many = absurd (true≢false many)
-      by false e many = omega (arith, leb-false (2 ^ 24) unit e, ltb-false (2 ^ 40) (serial + eventCount s h) many)
+  unfolding key
+  fits unit serial p kept below = omega (arith, key-terms unit serial (eventCount s h) kept)
 
   pub readings : Readings s h
   unfolding gap microseconds key
