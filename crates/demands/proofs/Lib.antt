@@ -1,4 +1,5 @@
 pub mod BareNumbers
+pub mod NameParts
 pub mod Patterns
 pub mod Pointers
 pub mod Readings

@@ -1,27 +1,20 @@
 -- What is listed, and when it happened, is as document 01 says.
-use Prim.Native.Nat.{ℕ, suc, _+_, _*_, _^_, _≤_, _<_}
-use mathlib.Core.Bool.{Bool, true, false, cond}
+use Prim.Native.Nat.{ℕ, suc, _*_, _^_, _≤_, _<_}
+use mathlib.Core.Bool.{false}
 use mathlib.Core.List.{List}
-use mathlib.Core.Path.{_≡_, refl, sym}
+use mathlib.Core.Path.{_≡_, sym}
 use native.Mathlib.Nat.{div-mul-le-self, div-add-mod', mod-lt, suc-mul}
 use native.Mathlib.Omega.{arith}
-use borrow.Author.Tests.{ltb-true}
-use lib.Dec.{ltb}
-use lib.ListN.{length}
-use Rattle.rows.proofs.Lowest.{lowest-le}
 use Rattle.rows.specs.Rows.{firstBroken}
 use Rattle.rows.specs.declared.Verdict.the-variants.{Passed}
-use Rattle.trace.proofs.Passed.{entry-within, key-terms, registry-passed}
+use Rattle.trace.proofs.Passed.{key-terms}
 use Rattle.trace.proofs.Ring.{count-is, events-most, first-count, first-slot, round-count, round-slot}
 use Rattle.trace.proofs.Times.{product-below}
 use Rattle.trace.specs.Keys.{key}
-use Rattle.trace.specs.Layout.{entryCount}
-use Rattle.trace.specs.Names.{entryName, isZeroAt, nameAt, nameOf, nameSize, nameStart, threadEntry}
 use Rattle.trace.specs.Slots.{eventCount}
 use Rattle.trace.specs.Table.{dumpRows, row15}
 use Rattle.trace.specs.Times.{gap, microseconds}
 use Rattle.trace.specs.declared.Header.{Header}
-use Rattle.trace.specs.declared.Name.the-variants.{Nameless}
 use Rattle.words.proofs.Circles.{minus-gone, minus-low}
 use Rattle.words.specs.Masks.{width}
 use Rattle.demands.specs.Readings.{Readings}
@@ -31,16 +24,6 @@ unfolding microseconds
 not-below ticks rate some = rw suc-mul (omega (arith, div-add-mod' (ticks * 1000000) rate, mod-lt (ticks * 1000000) some))
 
 module _ (s : List ℕ) (h : Header) (passed : firstBroken (dumpRows s h) ≡ Passed) where
-  within : (pointer : ℕ) → nameStart (nameOf s h pointer) + nameSize (nameOf s h pointer) ≤ length s
-  unfolding nameOf
-  within pointer = by (ltb (threadEntry s h pointer) (entryCount h)) refl
-    where
-      by : (found : Bool) → ltb (threadEntry s h pointer) (entryCount h) ≡ found
-          → nameStart (cond found (entryName s h (threadEntry s h pointer)) Nameless) + nameSize (cond found (entryName s h (threadEntry s h pointer)) Nameless) ≤ length s
-      by true e =
-          omega (arith, entry-within s h (registry-passed s h passed) (threadEntry s h pointer) (ltb-true _ _ e), lowest-le (isZeroAt s (nameAt h (threadEntry s h pointer))) (h .«name_size»))
-      by false e = omega arith
-
   fits : (unit serial p : ℕ) → row15 unit serial (eventCount s h) .broken ≡ false → p < eventCount s h → key unit serial p < 2 ^ 64
   unfolding key
   fits unit serial p kept below = omega (arith, key-terms unit serial (eventCount s h) kept)
@@ -57,7 +40,6 @@ module _ (s : List ℕ) (h : Header) (passed : firstBroken (dumpRows s h) ≡ Pa
     product = product-below s h passed;
     not-above = λ ticks rate some. div-mul-le-self (ticks * 1000000) rate;
     not-below = not-below;
-    name-within = within;
     key-fits = fits;
     key-differs = λ unit serial p q same. omega arith;
   }

@@ -1,5 +1,6 @@
 pub mod BareNumbers
 pub mod Bytes
+pub mod NameParts
 pub mod Patterns
 pub mod Pointers
 pub mod Readings

@@ -1,4 +1,4 @@
--- Order, time, names and keys in document 01's own words, of a dump that passes the check.
+-- Order, time and keys in document 01's own words, of a dump that passes the check.
 use Prim.Native.Nat.{ℕ, suc, _+_, _*_, _%_, _^_, _≤_, _<_}
 use mathlib.Core.Bool.{true, false}
 use mathlib.Core.List.{List}
@@ -7,7 +7,6 @@ use lib.ListN.{length}
 use Rattle.words.specs.Masks.{width}
 use Rattle.trace.specs.Keys.{key}
 use Rattle.trace.specs.Layout.{currentSlot, slotCount}
-use Rattle.trace.specs.Names.{nameOf, nameSize, nameStart}
 use Rattle.trace.specs.Ring.{oldestFirst, slotOf}
 use Rattle.trace.specs.Slots.{eventCount}
 use Rattle.trace.specs.Table.{row15}
@@ -33,8 +32,6 @@ pub record Readings (s : List ℕ) (h : Header) : Type 0 where
   -- microseconds never pass the ticks' exact time, and fall short of it by less than one
   pub not-above : (ticks rate : ℕ) → 1 ≤ rate → microseconds ticks rate * rate ≤ ticks * 1000000
   pub not-below : (ticks rate : ℕ) → 1 ≤ rate → ticks * 1000000 < suc (microseconds ticks rate) * rate
-  -- a name lies within the dump
-  pub name-within : (pointer : ℕ) → nameStart (nameOf s h pointer) + nameSize (nameOf s h pointer) ≤ length s
   -- where row 15 is not broken, a key fits 64 bits, and no two events have one key
   pub key-fits : (unit serial p : ℕ) → row15 unit serial (eventCount s h) .broken ≡ false → p < eventCount s h → key unit serial p < 2 ^ 64
   pub key-differs : (unit serial p q : ℕ) → key unit serial p ≡ key unit serial q → p ≡ q
