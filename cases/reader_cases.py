@@ -14,13 +14,12 @@ import struct
 import sys
 from collections import namedtuple
 
-from dumps import WORDS, Dump, Refused, changed, damage, shifted
+from dumps import (ALARM, INIT, ISR, PUMP, VALVE, WORDS, Dump, Refused, bad_type, broken, changed, damage, entry, no_id,
+                   slot)
 from made import Chance, keep
 from reader import Reading, find_name, listing, one_event, one_line, read_events, read_fields
 from texts import BARE, CONTEXTS, DOCUMENT, line, name, read_back
 
-PUMP, VALVE, ALARM = 0x20001000, 0x20001100, 0x20001200
-INIT, ISR = 0xF0F0F0F0, 0xFFFFFFFF
 TWO_40 = 1 << 40
 LAST = (1 << 64) - 1
 PLAIN = Reading(rate=1000000, unit=0, serial=0)
@@ -91,14 +90,6 @@ def each(title, dump, reading=PLAIN, **by_hand):
 
 
 # What dumps hold.
-
-def slot(pointer=PUMP, field=16, ident=5, stamp=100, info=(1, 2, 3, 4)):
-    return [pointer, field, ident, stamp, *info]
-
-
-def entry(pointer, called, flag=0, kind=1):
-    return [flag, kind, b"\0\0", pointer, 0, 0, called]
-
 
 def holding(slots, *entries, current=None, size=8, mask=0xFFFF, base=0x20000000):
     """A dump of these; with no current given, the ring has not gone round and an unused slot follows."""
@@ -357,36 +348,6 @@ def keys():
         both(f"key: serial 18446744073709551614, {title}", dump, Reading(1, 0, LAST - 1), "15 0 0")
         both(f"key: unit 16777216, {title}", dump, Reading(1, 16777216, 0), "15 0 0")
         both(f"key: unit 4294967295, {title}", dump, Reading(1, 4294967295, 0), "15 0 0")
-
-
-def no_id(*indices):
-    dump = Dump().use(0, 1, 2).at(3)
-    for i in indices:
-        dump.slots[i][2] = 0
-    return dump
-
-
-def bad_type(*indices):
-    dump = Dump().use(0, 1).at(2)
-    for i in indices:
-        dump.entries[i][1] = 15
-    return dump
-
-
-def broken():
-    """A dump for each number from 1 to 13, by the refusal; 2 takes a dump of its own."""
-    cut = lambda length: changed(Dump().use(0, 1).at(2), cut=length)
-    return [
-        ("1 0", "no bytes", cut(0)), ("1 0", "47 bytes", cut(47)), ("3 0", "id", changed(Dump(), id=0)),
-        ("4 0", "mask 0", changed(Dump(), mask=0)), ("4 0", "mask 0x5", changed(Dump(), mask=5)),
-        ("5 0", "name size", changed(Dump(), name_size=6)), ("6 0", "registry start", shifted("registry_start", 4)),
-        ("7 0", "registry end", shifted("registry_end", 1)), ("7 0", "48 bytes", cut(48)),
-        ("8 0", "buffer start", shifted("buffer_start", 32)), ("9 0", "buffer end", shifted("buffer_end", 32)),
-        ("10 0", "current", shifted("current", 16)), ("11 0", "type", bad_type(0)), ("11 1", "types", bad_type(1, 2)),
-        ("11 2", "last type", bad_type(2)), ("12 0", "slots", Dump().use(1, 3).at(2)),
-        ("12 3", "last slot", Dump().use(0, 1, 2).at(1)), ("12 2", "gap", Dump().use(0, 1).at(3)),
-        ("13 0", "event id", no_id(0)), ("13 1", "event ids", no_id(1, 2)), ("13 2", "last event id", no_id(2)),
-    ]
 
 
 def refusals():

@@ -6,4 +6,6 @@ pub mod Readings
 pub mod Starred
 pub mod Texts
 pub mod Turns
+pub mod WholeCalls
 pub mod WholeCase
+pub mod Writings

@@ -6,6 +6,7 @@ use mathlib.Core.Path.{_≡_, refl}
 use native.Mathlib.Omega.{arith}
 use borrow.Author.Tests.{ltb-true}
 use lib.Dec.{ltb}
+use lib.ListN.{length}
 use Rattle.rows.proofs.Lowest.{lowest-le}
 use Rattle.rows.proofs.Rows.{passed-before}
 use Rattle.rows.specs.Rows.{firstBroken}
@@ -13,7 +14,7 @@ use Rattle.rows.specs.declared.Verdict.{Verdict}
 use Rattle.rows.specs.declared.Verdict.the-variants.{Passed, Refused}
 use Rattle.text.specs.declared.Context.{Context}
 use Rattle.text.specs.declared.Context.the-variants.{Init, Isr, Thread}
-use Rattle.trace.proofs.Passed.{entry-within, registry-passed}
+use Rattle.trace.proofs.Passed.{entry-within, header-passed, registry-passed}
 use Rattle.trace.specs.Layout.{entryCount, headerOf}
 use Rattle.trace.specs.Names.{entryName, findName, isZeroAt, nameAt, nameFound, nameOf, searched, threadEntry}
 use Rattle.trace.specs.Slots.{eventCount}
@@ -31,7 +32,7 @@ module _ (s : List ℕ) (h : Header) (passed : firstBroken (registryRows s h) �
     where
       by : (found : Bool) → ltb (threadEntry s h pointer) (entryCount h) ≡ found → LiesWithin (cond found (entryName s h (threadEntry s h pointer)) Nameless) s
       by true e =
-          omega (arith, entry-within s h passed (threadEntry s h pointer) (ltb-true _ _ e), lowest-le (isZeroAt s (nameAt h (threadEntry s h pointer))) (h .«name_size»))
+          omega (arith, entry-within h (length s) (header-passed s h passed) (threadEntry s h pointer) (ltb-true _ _ e), lowest-le (isZeroAt s (nameAt h (threadEntry s h pointer))) (h .«name_size»))
       by false e = omega arith
 
   by-context : (by : Context) (slot : Slot) → LiesWithin (nameFor by s h slot) s

@@ -1,5 +1,4 @@
 pub mod BareNumbers
-pub mod Bytes
 pub mod NameParts
 pub mod Patterns
 pub mod Pointers
@@ -8,3 +7,4 @@ pub mod Starred
 pub mod Texts
 pub mod Turns
 pub mod WholeCase
+pub mod Writings

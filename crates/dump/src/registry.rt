@@ -19,7 +19,7 @@ fn in_use(dump: &[u8], at: usize) -> bool
 }
 
 // Whether an object may have this type.
-fn allowed_type(t: u8) -> bool
+pub fn allowed_type(t: u8) -> bool
     ensures { λ r. ⌜ r ≡ isAllowedType t ⌝ }
 {
     either(both(1 <= t, t <= 14), both(21 <= t, t <= 28))

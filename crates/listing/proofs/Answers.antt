@@ -1,10 +1,10 @@
 -- What a call gives by rows, some of which it has checked already.
 use Prim.Native.Nat.{ℕ, _≤_, _<_}
 use mathlib.Core.List.{List, [], _∷_, _++_}
-use mathlib.Core.Path.{_≡_, refl, sym, _∙_}
+use mathlib.Core.Path.{_≡_, refl}
 use borrow.Author.Tests.{le-leb, le-ltb, lt-leb, lt-ltb}
 use lib.ListN.{length}
-use Rattle.rows.proofs.Rows.{from-start, then-more, then-refused}
+use Rattle.rows.proofs.Rows.{then-refused, then-rest}
 use Rattle.rows.specs.Rows.{Row, firstBroken}
 use Rattle.rows.specs.declared.Refusal.{Refusal}
 use Rattle.rows.specs.declared.Verdict.the-variants.{Passed, Refused}
@@ -25,7 +25,7 @@ module _ (rs more : List Row) {text old : List ℕ} where
   -- rows that have passed leave the answer to the others
   pub gave-more : {new : List ℕ} {said : Listed} → firstBroken rs ≡ Passed → Gave more text old new said → Gave (rs ++ more) text old new said
   gave-more passed gave =
-      let same : firstBroken more ≡ firstBroken (rs ++ more) = sym (from-start more) ∙ then-more rs more passed in
+      let same = then-rest rs more passed in
       record { answered = rw same at (gave .answered); output = rw same at (gave .output) }
 
 module _ (text : List ℕ) {old : List ℕ} where

@@ -1,12 +1,15 @@
 -- The laws of a search for the lowest index, and of a count, for any test.
-use Prim.Native.Nat.{ℕ, zero, suc, _+_, _<_, _≤_}
+use Prim.Native.Nat.{ℕ, zero, suc, _+_, _<_, _≤_, min}
 use mathlib.Core.Bool.{Bool, true, false, cond}
-use mathlib.Core.Path.{_≡_, refl, ap}
+use mathlib.Core.Path.{_≡_, refl, sym, ap, ap₂, _∙_}
+use native.Mathlib.Decide.{decLt}
 use native.Mathlib.Numerals.{add-one}
 use native.Mathlib.Omega.{arith}
+use borrow.Author.Tests.{lt-ltb, le-ltb, ltb-false}
+use lib.Dec.{ltb}
 use Rattle.rows.specs.Lowest.{lowest, count}
 
--- a search that met no hit ends at the count
+-- a search that meets no hit ends at the count
 pub lowest-none : (t : ℕ → Bool) (n : ℕ) → ((k : ℕ) → k < n → t k ≡ false) → n ≡ lowest t n
 unfolding lowest
 lowest-none t zero miss = refl
@@ -20,10 +23,6 @@ lowest-at t (suc n) zero within miss hit = rw hit
 lowest-at t (suc n) (suc r) within miss hit =
     rw (miss 0 (omega arith)) (ap suc (lowest-at (λ k. t (suc k)) n r (omega arith) (λ k h. miss (suc k) (omega arith)) hit))
 
-missed : (b : Bool) (n m : ℕ) → suc n ≤ cond b 0 (suc m) → (b ≡ false) × (n ≤ m)
-missed true n m ended = absurd (omega arith)
-missed false n m ended = (refl, omega arith)
-
 -- a search ends at the count at the latest
 one-later : (b : Bool) (n m : ℕ) → m ≤ n → cond b 0 (suc m) ≤ suc n
 one-later true n m below = omega arith
@@ -34,12 +33,49 @@ unfolding lowest
 lowest-le t zero = omega arith
 lowest-le t (suc n) = one-later (t 0) n (lowest (λ k. t (suc k)) n) (lowest-le (λ k. t (suc k)) n)
 
--- a search that ended at the count met no hit
-pub none-hit : (t : ℕ → Bool) (n : ℕ) → n ≤ lowest t n → (k : ℕ) → k < n → t k ≡ false
+-- a search meets no hit before its end
+missed : (b : Bool) (k m : ℕ) → k < cond b 0 (suc m) → (b ≡ false) × (k ≤ m)
+missed true k m below = absurd (omega arith)
+missed false k m below = (refl, omega arith)
+
+pub lowest-before : (t : ℕ → Bool) (n k : ℕ) → k < lowest t n → t k ≡ false
 unfolding lowest
-none-hit t zero ended k below = absurd (omega arith)
-none-hit t (suc n) ended zero below = missed (t 0) n (lowest (λ k. t (suc k)) n) ended .0
-none-hit t (suc n) ended (suc k) below = none-hit (λ k. t (suc k)) n (missed (t 0) n (lowest (λ k. t (suc k)) n) ended .1) k (omega arith)
+lowest-before t zero k below = absurd (omega arith)
+lowest-before t (suc n) zero below = missed (t 0) 0 (lowest (λ k. t (suc k)) n) below .0
+lowest-before t (suc n) (suc k) below = lowest-before (λ k. t (suc k)) n k (missed (t 0) (suc k) (lowest (λ k. t (suc k)) n) below .1)
+
+-- a search ends not below the count just where there is no hit
+pub none-hit : (t : ℕ → Bool) (n : ℕ) → ltb (lowest t n) n ≡ false → (k : ℕ) → k < n → t k ≡ false
+none-hit t n ended k below = lowest-before t n k (omega (arith, ltb-false (lowest t n) n ended))
+
+pub none-lowest : (t : ℕ → Bool) (n : ℕ) → ((k : ℕ) → k < n → t k ≡ false) → ltb (lowest t n) n ≡ false
+none-lowest t n miss = le-ltb (lowest t n) n (omega (arith, lowest-none t n miss))
+
+-- a search that ends below the count ends at a hit
+hit-at : (t : ℕ → Bool) (n m : ℕ) (b : Bool) → t 0 ≡ b → (m < n → t (suc m) ≡ true) → cond b 0 (suc m) < suc n → t (cond b 0 (suc m)) ≡ true
+hit-at t n m true first later found = first
+hit-at t n m false first later found = later (omega arith)
+
+pub lowest-hit : (t : ℕ → Bool) (n : ℕ) → lowest t n < n → t (lowest t n) ≡ true
+unfolding lowest
+lowest-hit t zero found = absurd (omega arith)
+lowest-hit t (suc n) found = hit-at t n (lowest (λ k. t (suc k)) n) (t 0) refl (lowest-hit (λ k. t (suc k)) n) found
+
+-- searches with tests that agree end at one place
+pub lowest-same : (t u : ℕ → Bool) (n : ℕ) → ((k : ℕ) → k < n → t k ≡ u k) → lowest t n ≡ lowest u n
+unfolding lowest
+lowest-same t u zero agree = refl
+lowest-same t u (suc n) agree =
+    ap₂ (λ (b : Bool) (m : ℕ). cond b 0 (suc m)) (agree 0 (omega arith)) (lowest-same (λ k. t (suc k)) (λ k. u (suc k)) n (λ k below. agree (suc k) (omega arith)))
+
+-- with one hit more a search ends there at the latest
+pub lowest-more : (t u : ℕ → Bool) (n i : ℕ) → i < n → ((k : ℕ) → (k ≡ i → ⊥) → u k ≡ t k) → u i ≡ true → lowest u n ≡ min (lowest t n) i
+lowest-more t u n i within same hit =
+    sym (lowest-at u n (min (lowest t n) i) (omega arith) (λ k below. same k (omega arith) ∙ lowest-before t n k (omega arith)) (by (decLt (lowest t n) i)))
+  where
+    by : Dec (lowest t n < i) → u (min (lowest t n) i) ≡ true
+    by (yes first) = let e : min (lowest t n) i ≡ lowest t n = omega arith in rw e (same (lowest t n) (omega arith) ∙ lowest-hit t n (omega arith))
+    by (no later) = let e : min (lowest t n) i ≡ i = omega arith in rw e hit
 
 -- one index more
 pub count-more : (t : ℕ → Bool) (n : ℕ) → count t (n + 1) ≡ count t n + cond (t n) 1 0
@@ -54,3 +90,13 @@ pub count-le : (t : ℕ → Bool) (n : ℕ) → count t n ≤ n
 unfolding count
 count-le t zero = omega arith
 count-le t (suc n) = omega (arith, count-le t n, one-at-most (t n))
+
+-- a test that the first m pass and no others counts them
+pub count-first : (t : ℕ → Bool) (n m : ℕ) → ((i : ℕ) → i < n → t i ≡ ltb i m) → count t n ≡ min m n
+unfolding count
+count-first t zero m first = omega arith
+count-first t (suc n) m first = rw (first n (omega arith)) (by (decLt n m) (count-first t n m (λ i below. first i (omega arith))))
+  where
+    by : Dec (n < m) → count t n ≡ min m n → count t n + cond (ltb n m) 1 0 ≡ min m (suc n)
+    by (yes below) counted = rw (lt-ltb n m below) (omega arith)
+    by (no past) counted = rw (le-ltb n m (omega arith)) (omega arith)

@@ -39,6 +39,9 @@ module _ (rs more : List Row) where
   pub then-more : firstBroken rs ≡ Passed → afterRows Passed more ≡ firstBroken (rs ++ more)
   then-more e = rw e at (in-order rs more)
 
+  pub then-rest : firstBroken rs ≡ Passed → firstBroken more ≡ firstBroken (rs ++ more)
+  then-rest e = sym (from-start more) ∙ then-more e
+
   -- rows have passed where they and further rows have
   pub passed-before : firstBroken (rs ++ more) ≡ Passed → firstBroken rs ≡ Passed
   passed-before passed = by (firstBroken rs) refl
@@ -61,3 +64,13 @@ unfolding firstBroken
 none-broken [] passed k = refl
 none-broken (r ∷ rs) passed zero = past (r .broken) (refusal r) (firstBroken rs) passed .0
 none-broken (r ∷ rs) passed (suc k) = none-broken rs (past (r .broken) (refusal r) (firstBroken rs) passed .1) k
+
+-- a single row passes or refuses
+module _ (r : Row) where
+  pub one-kept : r .broken ≡ false → firstBroken (r ∷ []) ≡ Passed
+  unfolding firstBroken
+  one-kept e = rw e
+
+  pub one-broken : r .broken ≡ true → firstBroken (r ∷ []) ≡ Refused (refusal r)
+  unfolding firstBroken
+  one-broken e = rw e

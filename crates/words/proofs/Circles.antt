@@ -1,4 +1,4 @@
--- Differences around a circle of two to the w: below it, the distance gone, and cut from those around a larger circle by a mask.
+-- Differences around a circle of two to the w: below it, the distance gone, pointers by their offsets, and cut from those around a larger circle by a mask.
 use Prim.Native.Nat.{ℕ, zero, suc, _+_, _-_, _*_, _/_, _%_, _^_, _≤_, _<_}
 use mathlib.Core.Path.{_≡_, refl, sym, ap, _∙_}
 use native.Mathlib.Nat.{add-assoc, add-mul, add-zero, suc-mul, mod-lt, mod-mod, mod-add-mod, mod-eq-of-lt, add-mul-mod-self-right}
@@ -6,7 +6,7 @@ use native.Mathlib.Omega.{arith}
 use lib.Bits.{bitAnd, and-mask}
 use lib.Pow.{pow-pos, pow-add, mod-mod-pow, shr-lt, split}
 use Rattle.words.specs.Masks.{width}
-use Rattle.words.specs.Offsets.{minus}
+use Rattle.words.specs.Offsets.{minus, offset, pointerTo}
 use Rattle.words.proofs.Masks.{width-is, width-le}
 
 -- a difference around a circle of two to the w is below it
@@ -31,6 +31,15 @@ minus-gone w a g below =
 -- so that of equals is none
 pub minus-same : (w a : ℕ) → minus w a a ≡ 0
 minus-same w a = rw (add-zero a) at (minus-gone w a 0 (pow-pos w))
+
+-- the pointer to an offset has that offset, and 32 bits
+pub pointer-offset : (base at : ℕ) → at < 2 ^ 32 → offset base (pointerTo base at) ≡ at
+unfolding minus pointerTo
+pointer-offset base at below = mod-add-mod (base + at) (2 ^ 32) (2 ^ 32 - base % 2 ^ 32) ∙ minus-gone 32 base at below
+
+pub pointer-below : (base at : ℕ) → pointerTo base at < 2 ^ 32
+unfolding pointerTo
+pointer-below base at = mod-lt (base + at) (pow-pos 32)
 
 -- what is taken from so many turns is, but for whole turns, taken from one
 turns : (many turn q r : ℕ) → q < many → r < turn → many * turn - (q * turn + r) ≡ (turn - r) + (many - suc q) * turn

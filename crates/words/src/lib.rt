@@ -6,8 +6,8 @@ ghost use lib.Bits.{bitAnd};
 ghost use lib.ListN.{getD, set};
 ghost use mathlib.Core.List.{[], _∷_};
 ghost use lib.Seq.{sets};
-ghost use Rattle.words.specs.Words.{joined, lowestFirst, halfAt, wordAt, putHalf, putWord};
-ghost use Rattle.words.specs.Offsets.{minus, offset};
+ghost use Rattle.words.specs.Words.{bytesAt, joined, lowestFirst, halfAt, wordAt, putHalf, putWord};
+ghost use Rattle.words.specs.Offsets.{minus, offset, pointerTo};
 ghost use Rattle.words.specs.Masks.{width};
 
 pub enum Order {
@@ -121,6 +121,17 @@ pub fn put_word(buffer: &mut [u8], at: usize, order: Order, v: u32)
     }
 }
 
+// Stores so many bytes, those given and then zeros.
+pub fn put_padded(buffer: &mut [u8], at: usize, bytes: &[u8], size: usize)
+    ensures { λ _. ⌜ now (buffer .exit) ≡ sets (now (buffer .entry)) at (bytesAt (now (bytes .entry)) 0 size) ⌝ }
+{
+    let mut k = 0;
+    while k < size {
+        put_byte(buffer, at, k, byte(bytes, 0, k));
+        k += 1;
+    }
+}
+
 // a minus b, modulo two to the 32.
 fn difference(a: u32, b: u32) -> u32
     ensures { λ r. ⌜ r ≡ (a + (2 ^ 32 - b)) % 2 ^ 32 ⌝ }
@@ -133,6 +144,20 @@ pub fn offset_from(base: u32, pointer: u32) -> usize
     ensures { λ r. ⌜ r ≡ offset base pointer ⌝ }
 {
     difference(pointer, base) as usize
+}
+
+// a plus b, modulo two to the 32.
+fn sum(a: u32, b: u32) -> u32
+    ensures { λ r. ⌜ r ≡ (a + b) % 2 ^ 32 ⌝ }
+{
+    std::num::wrapping_add_u32(a, b)
+}
+
+// The pointer to an offset.
+pub fn pointer_to(base: u32, at: usize) -> u32
+    ensures { λ r. ⌜ r ≡ pointerTo base at ⌝ }
+{
+    sum(base, (at % 4294967296) as u32)
 }
 
 // The later stamp minus the earlier, under a mask.

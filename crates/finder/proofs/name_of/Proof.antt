@@ -5,7 +5,7 @@ use mathlib.Core.Path.{_≡_}
 use native.Mathlib.Omega.{arith}
 use borrow.Author.Tests.{lt-ltb, le-ltb}
 use lib.Dec.{ltb}
-use Rattle.dump.proofs.Steps.{entries-are, entry-below}
+use Rattle.header.proofs.Steps.{entries-are, entry-below}
 use Rattle.trace.specs.Layout.{entryCount, headerSize}
 use Rattle.trace.specs.Names.{nameOf, threadEntry}
 use borrow.Author.Needs.{needs}

@@ -1,6 +1,6 @@
 -- `dump::registry::lowest_entry` meets its contract. The loop's invariant: `at` is where entry `i` starts, and no entry below `i` is wanted.
 use mathlib.Core.Path.{_≡_, _∙_, sym}
-use Rattle.dump.proofs.Steps.{step-more, entries-are, entry-below}
+use Rattle.header.proofs.Steps.{step-more, entries-are, entry-below}
 use Prim.Native.Nat.{ℕ, _+_, _*_, _-_, _<_, _≤_, _^_}
 use mathlib.Core.Bool.{false}
 use native.Mathlib.Omega.{arith}

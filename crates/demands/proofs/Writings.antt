@@ -1,0 +1,78 @@
+-- The calls that write do what a user may ask of them, by the laws of writing.
+use Prim.Native.Nat.{ℕ, suc, _^_, _<_, min}
+use mathlib.Core.List.{List}
+use mathlib.Core.Path.{_≡_, ap, sym, _∙_}
+use lib.ListN.{length}
+use Rattle.trace.specs.Layout.{headerOf, currentSlot, slotCount}
+use Rattle.trace.specs.declared.Checked.the-variants.{Sound}
+use Rattle.trace.specs.declared.Header.{Header}
+use Rattle.trace.specs.declared.Slot.{Slot}
+use Rattle.writing.proofs.Fresh.{fresh-entries, fresh-free, fresh-leftover, fresh-most, fresh-one-each, fresh-slots, fresh-some, fresh-sound, fresh-size}
+use Rattle.writing.proofs.Recorded.{recorded-current, recorded-header, recorded-names, recorded-one-each, recorded-others, recorded-slot, recorded-sound, recorded-size, recorded-untouched}
+use Rattle.writing.proofs.Registered.{registered-bytes, registered-events, registered-found, registered-header, registered-one-each, registered-others, registered-sound, registered-size, registered-untouched, registered-in-use, registered-type}
+use Rattle.writing.proofs.Removed.{removed-events, removed-free, removed-gone, removed-header, removed-one-each, removed-others, removed-sound, removed-size, removed-untouched, removed-freed}
+use Rattle.writing.specs.Arguments.{IsObject, IsSlot}
+use Rattle.writing.specs.Writing.{formatting, freshEnd, freshHeader, left, nextPointer, recording, registering, removing, withCurrent}
+use Rattle.writing.specs.declared.Format.{Format}
+use Rattle.writing.specs.declared.Object.{Object}
+use Rattle.demands.specs.Writings.{Accepted, Formatted, Recorded, Registered, Removed}
+
+pub formatting-makes : (f : Format) (s : List ℕ) → f .base < 2 ^ 32 → Accepted (formatting f s)
+    → Formatted f s (left (formatting f s) s) (freshHeader f (freshEnd f (length s)))
+formatting-makes f s base accepted = record {
+  sound = fresh-sound f s accepted base;
+  entries = fresh-entries f s accepted;
+  free = fresh-free f s accepted base;
+  slots = fresh-slots f s accepted;
+  one = fresh-some f s accepted;
+  no-more = fresh-most f s accepted;
+  leftover = fresh-leftover f s accepted;
+  size = fresh-size f s accepted;
+  one-each = fresh-one-each f s accepted base;
+}
+
+pub recording-leaves : (slot : Slot) (s : List ℕ) → IsSlot slot → Accepted (recording slot s) → Recorded slot s (left (recording slot s) s) (headerOf s)
+recording-leaves slot s words accepted = record {
+  this = recorded-slot slot s accepted words;
+  others = recorded-others slot s accepted;
+  size = recorded-size slot s accepted;
+  untouched = recorded-untouched slot s accepted;
+  header = header;
+  moved = ap currentSlot header ∙ recorded-current slot s accepted;
+  sound = λ n sound. recorded-sound slot s accepted words n sound ∙ ap (λ (h : Header). Sound h (min (suc n) (slotCount (headerOf s)))) (sym header);
+  names = recorded-names slot s accepted;
+  one-each = recorded-one-each slot s accepted;
+}
+  where
+    header : headerOf (left (recording slot s) s) ≡ withCurrent (headerOf s) (nextPointer (headerOf s))
+    header = recorded-header slot s accepted
+
+pub registering-leaves : (object : Object) (name s : List ℕ) → IsObject object → Accepted (registering object name s)
+    → Registered object name s (left (registering object name s) s) (headerOf s)
+registering-leaves object name s fits accepted = record {
+  size = registered-size object name s accepted;
+  untouched = registered-untouched object name s accepted;
+  header = registered-header object name s accepted;
+  in-use = registered-in-use object name s accepted fits;
+  type = registered-type object name s accepted fits;
+  found = registered-found object name s accepted fits;
+  bytes = registered-bytes object name s accepted;
+  others = registered-others object name s accepted fits;
+  events = registered-events object name s accepted;
+  sound = registered-sound object name s accepted fits;
+  one-each = registered-one-each object name s accepted fits;
+}
+
+pub removing-leaves : (pointer : ℕ) (s : List ℕ) → Accepted (removing pointer s) → Removed pointer s (left (removing pointer s) s) (headerOf s)
+removing-leaves pointer s accepted = record {
+  size = removed-size pointer s accepted;
+  untouched = removed-untouched pointer s accepted;
+  header = removed-header pointer s accepted;
+  gone = removed-gone pointer s accepted;
+  freed = removed-freed pointer s accepted;
+  free = removed-free pointer s accepted;
+  others = removed-others pointer s accepted;
+  events = removed-events pointer s accepted;
+  sound = removed-sound pointer s accepted;
+  one-each = removed-one-each pointer s accepted;
+}
