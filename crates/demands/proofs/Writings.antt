@@ -1,21 +1,45 @@
 -- The calls that write do what a user may ask of them, by the laws of writing.
 use Prim.Native.Nat.{ℕ, suc, _^_, _<_, min}
 use mathlib.Core.List.{List}
-use mathlib.Core.Path.{_≡_, ap, sym, _∙_}
+use mathlib.Core.Path.{_≡_, refl, sym, ap, _∙_}
 use lib.ListN.{length}
+use Rattle.rows.specs.Rows.{firstBroken}
+use Rattle.rows.specs.declared.Refusal.{Refusal}
+use Rattle.rows.specs.declared.Verdict.{Verdict}
+use Rattle.rows.specs.declared.Verdict.the-variants.{Passed, Refused}
 use Rattle.trace.specs.Layout.{headerOf, currentSlot, slotCount}
 use Rattle.trace.specs.declared.Checked.the-variants.{Sound}
 use Rattle.trace.specs.declared.Header.{Header}
 use Rattle.trace.specs.declared.Slot.{Slot}
+use Rattle.writing.proofs.Answers.{by-refusal}
 use Rattle.writing.proofs.Fresh.{fresh-entries, fresh-free, fresh-leftover, fresh-most, fresh-one-each, fresh-slots, fresh-some, fresh-sound, fresh-size}
 use Rattle.writing.proofs.Recorded.{recorded-current, recorded-header, recorded-names, recorded-one-each, recorded-others, recorded-slot, recorded-sound, recorded-size, recorded-untouched}
 use Rattle.writing.proofs.Registered.{registered-bytes, registered-events, registered-found, registered-header, registered-one-each, registered-others, registered-sound, registered-size, registered-untouched, registered-in-use, registered-type}
 use Rattle.writing.proofs.Removed.{removed-events, removed-free, removed-gone, removed-header, removed-one-each, removed-others, removed-sound, removed-size, removed-untouched, removed-freed}
-use Rattle.writing.specs.Arguments.{IsObject, IsSlot}
-use Rattle.writing.specs.Writing.{formatting, freshEnd, freshHeader, left, nextPointer, recording, registering, removing, withCurrent}
+use Rattle.writing.specs.Arguments.{IsSlot}
+use Rattle.writing.specs.Writing.{formatting, freshEnd, freshHeader, left, nextPointer, recording, registering, removing, withCurrent, Change, answer, said}
 use Rattle.writing.specs.declared.Format.{Format}
 use Rattle.writing.specs.declared.Object.{Object}
-use Rattle.demands.specs.Writings.{Accepted, Formatted, Recorded, Registered, Removed}
+use Rattle.writing.specs.declared.Outcome.{Outcome}
+use Rattle.writing.specs.declared.Outcome.the-variants as outcome
+use Rattle.demands.specs.Writings.{Accepted, Formatted, Refusing, Recorded, Registered, Removed}
+
+-- the verdict in an answer
+verdictOf : Outcome → Verdict
+verdictOf (outcome.Refused f) = Refused f
+verdictOf (outcome.Done n) = Passed
+
+verdict-back : (v : Verdict) (n : ℕ) → verdictOf (answer v n) ≡ v
+unfolding verdictOf
+verdict-back (Refused f) n = refl
+verdict-back Passed n = refl
+
+pub refusing : (c : Change) (s : List ℕ) → Refusing c s
+unfolding verdictOf
+refusing c s = record { first = λ f e. sym (by-refusal c s f e .0); only = only; unaltered = λ f e. sym (by-refusal c s f (only f e) .1) }
+  where
+    only : (f : Refusal) → said c ≡ outcome.Refused f → firstBroken (c .rows) ≡ Refused f
+    only f e = sym (verdict-back (firstBroken (c .rows)) (c .gives)) ∙ ap verdictOf e
 
 pub formatting-makes : (f : Format) (s : List ℕ) → f .base < 2 ^ 32 → Accepted (formatting f s)
     → Formatted f s (left (formatting f s) s) (freshHeader f (freshEnd f (length s)))
@@ -47,20 +71,20 @@ recording-leaves slot s words accepted = record {
     header : headerOf (left (recording slot s) s) ≡ withCurrent (headerOf s) (nextPointer (headerOf s))
     header = recorded-header slot s accepted
 
-pub registering-leaves : (object : Object) (name s : List ℕ) → IsObject object → Accepted (registering object name s)
+pub registering-leaves : (object : Object) (name s : List ℕ) → object .pointer < 2 ^ 32 → Accepted (registering object name s)
     → Registered object name s (left (registering object name s) s) (headerOf s)
-registering-leaves object name s fits accepted = record {
+registering-leaves object name s word accepted = record {
   size = registered-size object name s accepted;
   untouched = registered-untouched object name s accepted;
   header = registered-header object name s accepted;
-  in-use = registered-in-use object name s accepted fits;
-  type = registered-type object name s accepted fits;
-  found = registered-found object name s accepted fits;
+  in-use = registered-in-use object name s accepted word;
+  type = registered-type object name s accepted word;
+  found = registered-found object name s accepted word;
   bytes = registered-bytes object name s accepted;
-  others = registered-others object name s accepted fits;
+  others = registered-others object name s accepted word;
   events = registered-events object name s accepted;
-  sound = registered-sound object name s accepted fits;
-  one-each = registered-one-each object name s accepted fits;
+  sound = registered-sound object name s accepted word;
+  one-each = registered-one-each object name s accepted word;
 }
 
 pub removing-leaves : (pointer : ℕ) (s : List ℕ) → Accepted (removing pointer s) → Removed pointer s (left (removing pointer s) s) (headerOf s)

@@ -1,4 +1,4 @@
--- What a user may ask of the calls that write, of any buffer and of arguments that are accepted, in either byte order.
+-- What a user may ask of the calls that write, of any buffer and any arguments, in either byte order: first of a refusal, then of what is accepted.
 use Prim.Native.Nat.{ℕ, suc, _+_, _≤_, _<_, min}
 use mathlib.Core.Bool.{true}
 use mathlib.Core.List.{List}
@@ -6,7 +6,8 @@ use mathlib.Core.Option.{some}
 use mathlib.Core.Path.{_≡_}
 use lib.ListN.{length, getD, take}
 use Rattle.rows.specs.Rows.{firstBroken}
-use Rattle.rows.specs.declared.Verdict.the-variants.{Passed}
+use Rattle.rows.specs.declared.Refusal.{Refusal}
+use Rattle.rows.specs.declared.Verdict.the-variants.{Passed, Refused}
 use Rattle.trace.specs.Check.{checkOf}
 use Rattle.trace.specs.Layout.{headerOf, currentSlot, entryCount, slotAt, slotCount, entryAt, entrySize, slotSize}
 use Rattle.trace.specs.Names.{findName, nameBytes}
@@ -21,13 +22,20 @@ use Rattle.trace.specs.declared.Slot.{Slot}
 use Rattle.trace.specs.declared.Wanted.the-variants.{Free, InUse}
 use Rattle.writing.specs.Keeping.{OneEach, SameEvents, SameName, Outside, entered}
 use Rattle.writing.specs.Table.{lowestEntry}
-use Rattle.writing.specs.Writing.{Change, cut, freshEnd, freshSlot, freshSlots, nextPointer, nextSlot, withCurrent}
+use Rattle.writing.specs.Writing.{Change, cut, freshEnd, freshSlot, freshSlots, nextPointer, nextSlot, withCurrent, left, said}
 use Rattle.writing.specs.declared.Format.{Format}
 use Rattle.writing.specs.declared.Object.{Object}
+use Rattle.writing.specs.declared.Outcome.the-variants as outcome
 
 -- no row that the call checks is broken
 abbrev pub Accepted : Change → Type 0
 Accepted c = firstBroken (c .rows) ≡ Passed
+
+-- of every such call, whatever it is given: it refuses exactly by the first row that is broken, and then no byte is altered
+pub record Refusing (c : Change) (s : List ℕ) : Type 0 where
+  pub first : (f : Refusal) → firstBroken (c .rows) ≡ Refused f → said c ≡ outcome.Refused f
+  pub only : (f : Refusal) → said c ≡ outcome.Refused f → firstBroken (c .rows) ≡ Refused f
+  pub unaltered : (f : Refusal) → said c ≡ outcome.Refused f → left c s ≡ s
 
 -- what formatting leaves, t with header h
 pub record Formatted (f : Format) (s t : List ℕ) (h : Header) : Type 0 where

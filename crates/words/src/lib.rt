@@ -1,4 +1,4 @@
-// Numbers of 16 and 32 bits in bytes of either order, offsets, gaps, and the width of a mask.
+// Numbers of 16 and 32 bits in bytes of either order, padded bytes, pointers and offsets, gaps, and the width of a mask.
 // Nothing here can fail: a byte past the end reads as 0, and is not stored.
 ghost use mathlib.Core.Path.{_≡_};
 ghost use Prim.Native.Nat.{_+_, _-_, _%_, _^_};
