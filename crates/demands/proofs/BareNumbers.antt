@@ -50,9 +50,7 @@ bare-numbers = record {
   rounded = double-rounds;
   no-other = one-double;
   cast = cast-value;
-  rule = same;
-  exact = exactly;
-  back = turns-back;
+  held = λ n bare. record { limit = up-to n bare; rule = same n bare; value = exactly n bare; back = turns-back n bare };
   apart = λ m n x y e. sym (turns-back m x) ∙ ap (toUnsigned 64) e ∙ turns-back n y;
   last = last-bare;
   next = refl;

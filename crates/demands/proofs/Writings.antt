@@ -1,49 +1,28 @@
 -- The calls that write do what a user may ask of them, by the laws of writing.
 use Prim.Native.Nat.{ℕ, suc, _^_, _<_, min}
 use mathlib.Core.List.{List}
-use mathlib.Core.Path.{_≡_, refl, sym, ap, _∙_}
+use mathlib.Core.Path.{_≡_, sym, ap, _∙_}
 use lib.ListN.{length}
-use Rattle.rows.specs.Rows.{firstBroken}
-use Rattle.rows.specs.declared.Refusal.{Refusal}
-use Rattle.rows.specs.declared.Verdict.{Verdict}
-use Rattle.rows.specs.declared.Verdict.the-variants.{Passed, Refused}
 use Rattle.trace.specs.Layout.{headerOf, currentSlot, slotCount}
 use Rattle.trace.specs.declared.Checked.the-variants.{Sound}
 use Rattle.trace.specs.declared.Header.{Header}
 use Rattle.trace.specs.declared.Slot.{Slot}
-use Rattle.writing.proofs.Answers.{by-refusal}
-use Rattle.writing.proofs.Fresh.{fresh-entries, fresh-free, fresh-leftover, fresh-most, fresh-one-each, fresh-slots, fresh-some, fresh-sound, fresh-size}
+use Rattle.writing.proofs.Fresh.{current-fresh, fresh-bytes, fresh-entries, fresh-free, fresh-header, fresh-leftover, fresh-most, fresh-one-each, fresh-slots, fresh-some, fresh-sound, fresh-size}
 use Rattle.writing.proofs.Recorded.{recorded-current, recorded-header, recorded-names, recorded-one-each, recorded-others, recorded-slot, recorded-sound, recorded-size, recorded-untouched}
-use Rattle.writing.proofs.Registered.{registered-bytes, registered-events, registered-found, registered-header, registered-one-each, registered-others, registered-sound, registered-size, registered-untouched, registered-in-use, registered-type}
+use Rattle.writing.proofs.Registered.{registered-bytes, registered-entry, registered-events, registered-found, registered-header, registered-one-each, registered-others, registered-sound, registered-size, registered-untouched, registered-in-use, registered-type}
 use Rattle.writing.proofs.Removed.{removed-events, removed-free, removed-gone, removed-header, removed-one-each, removed-others, removed-sound, removed-size, removed-untouched, removed-freed}
 use Rattle.writing.specs.Arguments.{IsSlot}
-use Rattle.writing.specs.Writing.{formatting, freshEnd, freshHeader, left, nextPointer, recording, registering, removing, withCurrent, Change, answer, said}
+use Rattle.writing.specs.Writing.{formatting, freshEnd, freshHeader, left, nextPointer, recording, registering, removing, withCurrent}
 use Rattle.writing.specs.declared.Format.{Format}
 use Rattle.writing.specs.declared.Object.{Object}
-use Rattle.writing.specs.declared.Outcome.{Outcome}
-use Rattle.writing.specs.declared.Outcome.the-variants as outcome
-use Rattle.demands.specs.Writings.{Accepted, Formatted, Refusing, Recorded, Registered, Removed}
-
--- the verdict in an answer
-verdictOf : Outcome → Verdict
-verdictOf (outcome.Refused f) = Refused f
-verdictOf (outcome.Done n) = Passed
-
-verdict-back : (v : Verdict) (n : ℕ) → verdictOf (answer v n) ≡ v
-unfolding verdictOf
-verdict-back (Refused f) n = refl
-verdict-back Passed n = refl
-
-pub refusing : (c : Change) (s : List ℕ) → Refusing c s
-unfolding verdictOf
-refusing c s = record { first = λ f e. sym (by-refusal c s f e .0); only = only; unaltered = λ f e. sym (by-refusal c s f (only f e) .1) }
-  where
-    only : (f : Refusal) → said c ≡ outcome.Refused f → firstBroken (c .rows) ≡ Refused f
-    only f e = sym (verdict-back (firstBroken (c .rows)) (c .gives)) ∙ ap verdictOf e
+use Rattle.demands.specs.Writings.{Accepted, Formatted, Recorded, Registered, Removed}
 
 pub formatting-makes : (f : Format) (s : List ℕ) → f .base < 2 ^ 32 → Accepted (formatting f s)
     → Formatted f s (left (formatting f s) s) (freshHeader f (freshEnd f (length s)))
 formatting-makes f s base accepted = record {
+  bytes = fresh-bytes f s accepted;
+  header = fresh-header f s accepted base;
+  current = current-fresh f (freshEnd f (length s));
   sound = fresh-sound f s accepted base;
   entries = fresh-entries f s accepted;
   free = fresh-free f s accepted base;
@@ -77,6 +56,7 @@ registering-leaves object name s word accepted = record {
   size = registered-size object name s accepted;
   untouched = registered-untouched object name s accepted;
   header = registered-header object name s accepted;
+  entry = registered-entry object name s accepted;
   in-use = registered-in-use object name s accepted word;
   type = registered-type object name s accepted word;
   found = registered-found object name s accepted word;

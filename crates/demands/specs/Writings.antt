@@ -1,15 +1,14 @@
--- What a user may ask of the calls that write, of any buffer and any arguments, in either byte order: first of a refusal, then of what is accepted.
+-- What a user may ask of the calls that write, of any buffer and any arguments, in either byte order, where they are accepted.
 use Prim.Native.Nat.{ℕ, suc, _+_, _≤_, _<_, min}
 use mathlib.Core.Bool.{true}
 use mathlib.Core.List.{List}
 use mathlib.Core.Option.{some}
 use mathlib.Core.Path.{_≡_}
-use lib.ListN.{length, getD, take}
+use lib.ListN.{length, getD, drop, take}
 use Rattle.rows.specs.Rows.{firstBroken}
-use Rattle.rows.specs.declared.Refusal.{Refusal}
-use Rattle.rows.specs.declared.Verdict.the-variants.{Passed, Refused}
+use Rattle.rows.specs.declared.Verdict.the-variants.{Passed}
 use Rattle.trace.specs.Check.{checkOf}
-use Rattle.trace.specs.Layout.{headerOf, currentSlot, entryCount, slotAt, slotCount, entryAt, entrySize, slotSize}
+use Rattle.trace.specs.Layout.{headerOf, bufferStart, currentAt, currentSlot, entryCount, slotAt, slotCount, entryAt, entrySize, slotSize}
 use Rattle.trace.specs.Names.{findName, nameBytes}
 use Rattle.trace.specs.Registry.{isWanted, typeAt}
 use Rattle.trace.specs.Slots.{slotIn}
@@ -20,25 +19,23 @@ use Rattle.trace.specs.declared.Header.{Header}
 use Rattle.trace.specs.declared.Name.the-variants.{Nameless}
 use Rattle.trace.specs.declared.Slot.{Slot}
 use Rattle.trace.specs.declared.Wanted.the-variants.{Free, InUse}
+use Rattle.writing.specs.Bytes.{entryBytes}
 use Rattle.writing.specs.Keeping.{OneEach, SameEvents, SameName, Outside, entered}
 use Rattle.writing.specs.Table.{lowestEntry}
-use Rattle.writing.specs.Writing.{Change, cut, freshEnd, freshSlot, freshSlots, nextPointer, nextSlot, withCurrent, left, said}
+use Rattle.writing.specs.Writing.{Change, cut, freshBytes, freshEnd, freshSlot, freshSlots, nextPointer, nextSlot, withCurrent}
 use Rattle.writing.specs.declared.Format.{Format}
 use Rattle.writing.specs.declared.Object.{Object}
-use Rattle.writing.specs.declared.Outcome.the-variants as outcome
 
 -- no row that the call checks is broken
 abbrev pub Accepted : Change → Type 0
 Accepted c = firstBroken (c .rows) ≡ Passed
 
--- of every such call, whatever it is given: it refuses exactly by the first row that is broken, and then no byte is altered
-pub record Refusing (c : Change) (s : List ℕ) : Type 0 where
-  pub first : (f : Refusal) → firstBroken (c .rows) ≡ Refused f → said c ≡ outcome.Refused f
-  pub only : (f : Refusal) → said c ≡ outcome.Refused f → firstBroken (c .rows) ≡ Refused f
-  pub unaltered : (f : Refusal) → said c ≡ outcome.Refused f → left c s ≡ s
-
 -- what formatting leaves, t with header h
 pub record Formatted (f : Format) (s t : List ℕ) (h : Header) : Type 0 where
+  -- its bytes are those of the header, of the free entries, and zeros for the slots; current is the start
+  pub bytes : take (freshEnd f (length s)) t ≡ freshBytes f (length s)
+  pub header : headerOf t ≡ h
+  pub current : currentAt h ≡ bufferStart h
   -- it passes the whole check, with event count 0
   pub sound : checkOf t ≡ Sound h 0
   -- it has the entries asked for, each free, and as many slots as fit: at least one, and there is no room for one more
@@ -76,7 +73,9 @@ pub record Registered (object : Object) (name s t : List ℕ) (h : Header) : Typ
   pub size : length t ≡ length s
   pub untouched : (i : ℕ) → Outside (entryAt h (lowestEntry Free s h)) (entrySize h) i → getD t i 0 ≡ getD s i 0
   pub header : headerOf t ≡ h
-  -- the entry is in use, with the pointer and the type given
+  -- the entry's bytes are all that was given
+  pub entry : take (entrySize h) (drop (entryAt h (lowestEntry Free s h)) t) ≡ entryBytes (h .order) (h .«name_size») object name
+  -- it is in use, with the pointer and the type given
   pub in-use : isWanted (InUse (object .pointer)) t h (lowestEntry Free s h) ≡ true
   pub type : typeAt t (entryAt h (lowestEntry Free s h)) ≡ object .«object_type»
   -- a thread's name is found by its pointer, cut to the name size

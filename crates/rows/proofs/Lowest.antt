@@ -82,6 +82,13 @@ pub count-more : (t : ℕ → Bool) (n : ℕ) → count t (n + 1) ≡ count t n 
 unfolding count
 count-more t n = rw add-one
 
+-- counts with tests that agree are the same
+pub count-same : (t u : ℕ → Bool) (n : ℕ) → ((k : ℕ) → k < n → t k ≡ u k) → count t n ≡ count u n
+unfolding count
+count-same t u zero agree = refl
+count-same t u (suc n) agree =
+    ap₂ (λ (m : ℕ) (b : Bool). m + cond b 1 0) (count-same t u n (λ k below. agree k (omega arith))) (agree n (omega arith))
+
 one-at-most : (b : Bool) → cond {A = ℕ} b 1 0 ≤ 1
 one-at-most true = omega arith
 one-at-most false = omega arith

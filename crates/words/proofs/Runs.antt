@@ -6,8 +6,8 @@ use mathlib.Core.List.{List, [], _∷_, _++_, append-assoc}
 use native.Mathlib.Nat.{add-assoc, add-comm, add-zero, zero-add, add-suc, suc-add, suc-sub-suc, sub-zero, zero-sub, mod-eq-of-lt}
 use native.Mathlib.Numerals.{add-one}
 use native.Mathlib.Omega.{arith}
-use lib.ListN.{length, getD, set, take, replicate, length-set, length-append, List·getD-append}
-use lib.Seq.{sets, getD-append-add, getD-set-same}
+use lib.ListN.{length, getD, set, take, drop, replicate, length-set, length-append, List·getD-append}
+use lib.Seq.{sets, drop-at, getD-append-add, getD-set-same, length-take-le, sets-eq, take-append-seam}
 use Rattle.words.specs.Fields.{Field, byte, fieldBytes}
 use Rattle.words.specs.Words.{bytesAt, lowestFirst, joined, split, numberAt, numberBytes, putNumber, wordAt}
 use Rattle.words.specs.declared.Order.{Order}
@@ -27,6 +27,11 @@ run-byte (v ∷ vs) s at zero within fits =
     rw add-zero (sets-other vs (set s at v) (suc at) at (inl (omega arith)) ∙ getD-set-same s at v 0 (omega arith))
 run-byte (v ∷ vs) s at (suc k) within fits =
     ap (λ (i : ℕ). getD (sets (set s at v) (suc at) vs) i 0) (omega arith) ∙ run-byte vs (set s at v) (suc at) k (omega arith) (rw length-set (omega arith))
+
+-- and the run stands there whole
+pub run-back : (vs s : List ℕ) (at : ℕ) → at + length vs ≤ length s → take (length vs) (drop at (sets s at vs)) ≡ vs
+run-back vs s at fits =
+    rw (sets-eq vs s at fits, append-assoc, drop-at (take at s) (vs ++ drop (at + length vs) s) at (length-take-le at s (omega arith))) (take-append-seam vs (drop (at + length vs) s))
 
 -- bytes that are the same one by one are the same, and so is the number that they make
 same-bytes : (n : ℕ) (s t : List ℕ) (i k : ℕ) → ((j : ℕ) → j < n → getD s (i + j) 0 ≡ getD t (k + j) 0) → bytesAt s i n ≡ bytesAt t k n

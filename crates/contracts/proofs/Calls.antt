@@ -1,0 +1,17 @@
+-- What a contract says of a call is what the demands speak of.
+use Rattle.contracts.specs.Calls.{Calls}
+
+pub calls : Calls
+calls = record {
+  check = λ κs a p. p .allowed;
+  «find_name» = λ κs a p. p .allowed;
+  «found_part» = λ κs a p. p .allowed;
+  «name_part» = λ κs a p. p .allowed;
+  event = λ κs a p. p .allowed;
+  line = λ κs a p. p .allowed;
+  listing = λ κs a p. p .allowed;
+  format = λ κs a p. p .allowed;
+  «record» = λ κs a p. p .allowed;
+  register = λ κs a p. p .allowed;
+  remove = λ κs a p. p .allowed;
+}

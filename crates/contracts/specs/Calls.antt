@@ -1,0 +1,74 @@
+-- The calls of document 01: whatever a contract allows is the answer of which the demands speak.
+use Prim.Native.Nat.{ℕ}
+use mathlib.Core.List.{List}
+use mathlib.Core.Path.{_≡_}
+use denote.Ref.{now}
+use denote.Triple.Clauses.{Ended, Lasts}
+use lib.ListN.{length}
+use Rattle.dump.proofs as dump
+use Rattle.events.specs.Events.{eventOf}
+use Rattle.events.specs.Listing.{Gave, lineAt, lineRows, listingRows, listingText}
+use Rattle.finder.proofs as finder
+use Rattle.formatter.proofs as formatter
+use Rattle.listing.proofs as listing
+use Rattle.recorder.proofs as recorder
+use Rattle.registrar.proofs as registrar
+use Rattle.trace.specs.Check.{checkOf}
+use Rattle.trace.specs.Layout.{headerOf}
+use Rattle.trace.specs.Names.{findName, nameFound, nameSize, nameStart}
+use Rattle.trace.specs.Parts.{PartOf}
+use Rattle.walk.proofs as walk
+use Rattle.writing.specs.Writing.{Change, formatting, left, recording, registering, removing, said}
+use Rattle.writing.specs.declared.Outcome.{Outcome}
+use Rattle.contracts.specs.Settled.{Answer, Arguments, Lives, Result, Telling}
+
+-- a fact of the arguments a, of the result x, and of last, which has at its parameter's place what a buffer that is lent to be written holds at exit
+abbrev pub Allows : (T : Ended) → Telling T → ((κs : Lives T) (a : Arguments T κs) (x : Result T κs) (last : Lasts T κs a) → Type 0) → Type 0
+Allows T learnt only = (κs : Lives T) (a : Arguments T κs) (p : Answer T learnt κs a) → only κs a (p .result) (p .left)
+
+-- what a call that writes gives and leaves
+abbrev pub Changed : (List ℕ → Change) → List ℕ → List ℕ → Outcome → Type 0
+Changed change old new x = (x ≡ said (change old)) × (new ≡ left (change old) old)
+
+pub record Calls : Type 0 where
+  -- check(dump)
+  pub check : Allows dump.check.ended dump.check.Reads.Learnt (λ κs a x last. x ≡ checkOf (now (a .0)))
+  -- find_name(dump, pointer)
+  pub «find_name» : Allows finder.«find_name».ended finder.«find_name».Reads.Learnt (λ κs a x last.
+      let s = now (a .0) in let pointer = a .1 .0 in
+      x ≡ findName s pointer)
+  -- found_part(dump, found), name_part(dump, name): that part of the dump and not a copy, empty where there is no name, and in a refusal
+  pub «found_part» : Allows finder.«found_part».ended finder.«found_part».Reads.Learnt (λ κs a x last.
+      let name = nameFound (a .1 .0) in
+      PartOf (a .0) x (nameStart name) (nameSize name))
+  pub «name_part» : Allows finder.«name_part».ended finder.«name_part».Reads.Learnt (λ κs a x last.
+      let name = a .1 .0 in
+      PartOf (a .0) x (nameStart name) (nameSize name))
+  -- event(dump, position)
+  pub event : Allows walk.event.ended walk.event.Reads.Learnt (λ κs a x last.
+      let s = now (a .0) in let position = a .1 .0 in
+      x ≡ eventOf s position)
+  -- line(dump, reading, position, out)
+  pub line : Allows listing.line.ended listing.line.Reads.Learnt (λ κs a x last.
+      let s = now (a .0) in let reading = a .1 .0 in let position = a .1 .1 .0 in let old = now (a .1 .1 .1 .0) in let new = last .1 .1 .1 .0 in
+      Gave (lineRows s (headerOf s) reading position (length old)) (lineAt s (headerOf s) reading position) old new x)
+  -- listing(dump, reading, out)
+  pub listing : Allows listing.listing.ended listing.listing.Reads.Learnt (λ κs a x last.
+      let s = now (a .0) in let reading = a .1 .0 in let old = now (a .1 .1 .0) in let new = last .1 .1 .0 in
+      Gave (listingRows s (headerOf s) reading (length old)) (listingText s (headerOf s) reading) old new x)
+  -- format(buffer, format)
+  pub format : Allows formatter.format.ended formatter.format.Reads.Learnt (λ κs a x last.
+      let old = now (a .0) in let format = a .1 .0 in let new = last .0 in
+      Changed (formatting format) old new x)
+  -- record(buffer, slot)
+  pub «record» : Allows recorder.«record».ended recorder.«record».Reads.Learnt (λ κs a x last.
+      let old = now (a .0) in let slot = a .1 .0 in let new = last .0 in
+      Changed (recording slot) old new x)
+  -- register(buffer, object, name)
+  pub register : Allows registrar.register.ended registrar.register.Reads.Learnt (λ κs a x last.
+      let old = now (a .0) in let object = a .1 .0 in let name = now (a .1 .1 .0) in let new = last .0 in
+      Changed (registering object name) old new x)
+  -- remove(buffer, pointer)
+  pub remove : Allows registrar.remove.ended registrar.remove.Reads.Learnt (λ κs a x last.
+      let old = now (a .0) in let pointer = a .1 .0 in let new = last .0 in
+      Changed (removing pointer) old new x)

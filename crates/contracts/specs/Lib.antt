@@ -1,0 +1,5 @@
+pub mod Calls
+pub mod Demands
+pub mod Public
+pub mod Runs
+pub mod Settled

@@ -1,0 +1,1 @@
+// Theorems over the contracts of the public functions. No code.

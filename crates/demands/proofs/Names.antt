@@ -1,0 +1,167 @@
+-- A name is that of the lowest thread with the pointer; in a dump whose rows 1 to 11 have passed it lies within, as its entry does.
+use Prim.Native.Nat.{ℕ, _+_, _≤_, _<_}
+use mathlib.Core.Bool.{Bool, true, false, cond, true≢false}
+use mathlib.Core.List.{List, [], _∷_}
+use mathlib.Core.Logic.{_⊎_, inl, inr, ⊎-elim}
+use mathlib.Core.Path.{_≡_, refl, sym, ap}
+use native.Mathlib.Decide.{decLt}
+use native.Mathlib.Omega.{arith}
+use borrow.Author.Tests.{eq-eqb, eqb-false, eqb-true, ltb-true, ne-eqb}
+use lib.Dec.{ltb}
+use lib.ListN.{getD, length}
+use Rattle.events.specs.Events.{contextOf, eventAt, eventIn, eventOf, nameFor}
+use Rattle.events.specs.declared.Event.{Event}
+use Rattle.events.specs.declared.Shown.{Shown}
+use Rattle.events.specs.declared.Shown.the-variants as shown
+use Rattle.rows.proofs.Lowest.{lowest-before, lowest-hit, lowest-le, none-hit}
+use Rattle.rows.proofs.Rows.{passed-before}
+use Rattle.rows.specs.Rows.{firstBroken}
+use Rattle.rows.specs.declared.Verdict.the-variants.{Passed, Refused}
+use Rattle.text.specs.declared.Context.{Context}
+use Rattle.text.specs.declared.Context.the-variants.{Init, Isr, Thread}
+use Rattle.trace.proofs.Passed.{entry-within, header-passed, registry-passed}
+use Rattle.trace.proofs.Threads.{thread-hit}
+use Rattle.trace.specs.Layout.{entryAt, entryCount, headerOf}
+use Rattle.trace.specs.Names.{entryName, findName, isNamed, isZeroAt, nameAt, nameFound, nameLength, nameOf, searched, threadEntry}
+use Rattle.trace.specs.Registry.{isWanted, isWantedAt}
+use Rattle.trace.specs.Slots.{eventCount}
+use Rattle.trace.specs.Table.{dumpRows, eventRows, registryRows, row25}
+use Rattle.trace.specs.declared.Found.{Found}
+use Rattle.trace.specs.declared.Found.the-variants as found
+use Rattle.trace.specs.declared.Header.{Header}
+use Rattle.trace.specs.declared.Name.{Name}
+use Rattle.trace.specs.declared.Name.the-variants.{Named, Nameless}
+use Rattle.trace.specs.declared.Slot.{Slot}
+use Rattle.trace.specs.declared.Wanted.the-variants as wanted
+use Rattle.demands.specs.Names.{Extends, IsThread, LiesWithin, Lowest, Names, nameShown}
+use Rattle.demands.proofs.Answers.{given-is, searched-is}
+
+module _ (s : List ℕ) (h : Header) where
+  -- a search for a thread hits an entry that is one, and misses no such entry
+  hit-is : (pointer i : ℕ) → isWanted (wanted.Thread pointer) s h i ≡ true → IsThread s h pointer i
+  hit-is pointer i = thread-hit (h .order) s (entryAt h i) pointer
+
+  missed : (pointer i : ℕ) → isWanted (wanted.Thread pointer) s h i ≡ false → IsThread s h pointer i → ⊥
+  unfolding isWantedAt
+  missed pointer i miss is = true≢false (rw (is .0, eq-eqb _ _ (is .1), eq-eqb _ _ (is .2)) at miss)
+
+  lowest-is : (pointer : ℕ) → threadEntry s h pointer < entryCount h → Lowest s h pointer (threadEntry s h pointer)
+  lowest-is pointer below = record {
+    below = below;
+    is = hit-is pointer (threadEntry s h pointer) (lowest-hit (isWanted (wanted.Thread pointer) s h) (entryCount h) below);
+    no-lower = λ j lower. missed pointer j (lowest-before (isWanted (wanted.Thread pointer) s h) (entryCount h) j lower);
+  }
+
+  extends : (i : ℕ) → Extends s h i (nameAt h i) (nameLength s (nameAt h i) (h .«name_size»))
+  extends i = record {
+    begins = refl;
+    no-zero = λ k below. eqb-false (getD s (nameAt h i + k) 0) 0 (lowest-before zero-at (h .«name_size») k below);
+    ends = by (decLt size (h .«name_size»));
+  }
+    where
+      zero-at : ℕ → Bool
+      zero-at = isZeroAt s (nameAt h i)
+
+      size : ℕ
+      size = nameLength s (nameAt h i) (h .«name_size»)
+
+      by : Dec (size < h .«name_size») → (size ≡ h .«name_size») ⊎ ((size < h .«name_size») × (getD s (nameAt h i + size) 0 ≡ 0))
+      by (yes short) = inr (short, eqb-true (getD s (nameAt h i + size) 0) 0 (lowest-hit zero-at (h .«name_size») short))
+      by (no full) = inl (omega (arith, lowest-le zero-at (h .«name_size»)))
+
+  named : (pointer at size : ℕ) → nameOf s h pointer ≡ Named at size → (i : ℕ) × Lowest s h pointer i × Extends s h i at size
+  unfolding nameOf
+  named pointer at size = by (ltb (threadEntry s h pointer) (entryCount h)) refl
+    where
+      by : (hit : Bool) → ltb (threadEntry s h pointer) (entryCount h) ≡ hit → cond hit (entryName s h (threadEntry s h pointer)) Nameless ≡ Named at size
+          → (i : ℕ) × Lowest s h pointer i × Extends s h i at size
+      by true below e =
+          let start : nameAt h (threadEntry s h pointer) ≡ at = cc in
+          let long : nameLength s (nameAt h (threadEntry s h pointer)) (h .«name_size») ≡ size = cc in
+          (threadEntry s h pointer, lowest-is pointer (ltb-true _ _ below), rw (← start, ← long) (extends (threadEntry s h pointer)))
+      by false none e = absurd (true≢false (ap isNamed (sym e)))
+
+  nameless : (pointer : ℕ) → nameOf s h pointer ≡ Nameless → (i : ℕ) → i < entryCount h → IsThread s h pointer i → ⊥
+  unfolding nameOf
+  nameless pointer = by (ltb (threadEntry s h pointer) (entryCount h)) refl
+    where
+      by : (hit : Bool) → ltb (threadEntry s h pointer) (entryCount h) ≡ hit → cond hit (entryName s h (threadEntry s h pointer)) Nameless ≡ Nameless
+          → (i : ℕ) → i < entryCount h → IsThread s h pointer i → ⊥
+      by true below e i inside is = true≢false (ap isNamed e)
+      by false none e i inside is = missed pointer i (none-hit (isWanted (wanted.Thread pointer) s h) (entryCount h) none i inside) is
+
+  module _ (passed : firstBroken (registryRows s h) ≡ Passed) where
+    lies-within : (pointer : ℕ) → LiesWithin (nameOf s h pointer) s
+    lies-within pointer = by (nameOf s h pointer) refl
+      where
+        by : (name : Name) → nameOf s h pointer ≡ name → LiesWithin name s
+        by Nameless e = omega arith
+        by (Named at size) e =
+            let entry = named pointer at size e in
+            let most : size ≤ h .«name_size» = ⊎-elim (λ full. omega arith) (λ short. omega arith) (entry .2 .ends) in
+            omega (arith, entry-within h (length s) (header-passed s h passed) (entry .0) (entry .1 .below), entry .2 .begins)
+
+    by-context : (by : Context) (slot : Slot) → LiesWithin (nameFor by s h slot) s
+    unfolding nameFor
+    by-context Init slot = omega arith
+    by-context Isr slot = lies-within (slot .field)
+    by-context Thread slot = lies-within (slot .pointer)
+
+others-thread : (pointer : ℕ) → (pointer ≡ 0xF0F0F0F0 → ⊥) → (pointer ≡ 0xFFFFFFFF → ⊥) → contextOf pointer ≡ Thread
+unfolding contextOf
+others-thread pointer not-init not-isr = rw (ne-eqb pointer 0xF0F0F0F0 not-init, ne-eqb pointer 0xFFFFFFFF not-isr)
+
+module _ (s : List ℕ) where
+  abbrev h : Header
+  h = headerOf s
+
+  find-is : (pointer : ℕ) (name : Name) → findName s pointer ≡ found.Searched name → (firstBroken (registryRows s h) ≡ Passed) × (name ≡ nameOf s h pointer)
+  unfolding findName
+  find-is pointer = searched-is (firstBroken (registryRows s h)) (nameOf s h pointer)
+
+  find-within : (pointer : ℕ) → LiesWithin (nameFound (findName s pointer)) s
+  find-within pointer = by (findName s pointer) refl
+    where
+      by : (answer : Found) → findName s pointer ≡ answer → LiesWithin (nameFound answer) s
+      by (found.Refused f) e = omega arith
+      by (found.Searched name) e = rw (find-is pointer name e .1) (lies-within s h (find-is pointer name e .0) pointer)
+
+  event-is : (position : ℕ) (e : Event) → eventOf s position ≡ shown.Given e → (firstBroken (eventRows s h position) ≡ Passed) × (e ≡ eventAt s h position)
+  unfolding eventOf
+  event-is position = given-is (firstBroken (eventRows s h position)) (eventAt s h position)
+
+  event-by : (position : ℕ) (e : Event) → eventOf s position ≡ shown.Given e → e .by ≡ contextOf (e .slot .pointer)
+  unfolding eventIn
+  event-by position e answer = rw (event-is position e answer .1)
+
+  event-name : (by : Context) (position : ℕ) (e : Event) → eventOf s position ≡ shown.Given e → e .by ≡ by → e .name ≡ nameFor by s h (e .slot)
+  unfolding eventIn
+  event-name by position e answer is = rw (← is, event-is position e answer .1)
+
+  event-within : (position : ℕ) → LiesWithin (nameShown (eventOf s position)) s
+  event-within position = by (eventOf s position) refl
+    where
+      by : (answer : Shown) → eventOf s position ≡ answer → LiesWithin (nameShown answer) s
+      by (shown.Refused f) e = omega arith
+      by (shown.Given event) e =
+          let sound = passed-before (dumpRows s h) (row25 position (eventCount s h) ∷ []) (event-is position event e .0) in
+          rw (event-name (event .by) position event e refl) (by-context s h (registry-passed s h sound) (event .by) (event .slot))
+
+  pub names : Names s
+  unfolding contextOf nameFor
+  names = record {
+    named = named s h;
+    nameless = nameless s h;
+    searched = λ pointer name e. find-is pointer name e .1;
+    within = find-within;
+    none-empty = λ pointer none. rw none;
+    refused-empty = λ pointer f refused. rw refused;
+    init = refl;
+    isr = refl;
+    thread = others-thread;
+    event-by = event-by;
+    thread-name = event-name Thread;
+    isr-name = event-name Isr;
+    init-name = event-name Init;
+    event-within = event-within;
+  }

@@ -1,0 +1,189 @@
+-- Dumps that differ only where nothing is read get the same answers: their headers are the same and, where these pass, so is what is read of entries and slots.
+use Prim.Native.Nat.{ℕ, _+_, _≤_, _<_}
+use mathlib.Core.Bool.{not}
+use mathlib.Core.List.{List, [], _∷_, _++_}
+use mathlib.Core.Logic.{_⊎_, inl, inr, ⊎-elim}
+use mathlib.Core.Path.{_≡_, refl, sym, ap, ap₂, _∙_, subst₂}
+use native.Mathlib.Decide.{ℕ-discrete}
+use native.Mathlib.Nat.{mul-le-mul-right, zero-add}
+use native.Mathlib.Omega.{arith}
+use lib.Dec.{ltb}
+use lib.ListN.{length}
+use Rattle.events.specs.Events.{eventAt, eventOf, given}
+use Rattle.events.specs.Listing.{Gave, lineAt, listingText, readingRows}
+use Rattle.events.specs.declared.Listed.{Listed}
+use Rattle.events.specs.declared.Reading.{Reading}
+use Rattle.events.specs.declared.Shown.the-variants as shown
+use Rattle.rows.proofs.Rows.{then-refused}
+use Rattle.rows.specs.Rows.{Row, firstBroken, row, rowAt}
+use Rattle.rows.specs.declared.Refusal.{Refusal}
+use Rattle.rows.specs.declared.Verdict.{Verdict}
+use Rattle.rows.specs.declared.Verdict.the-variants.{Passed, Refused}
+use Rattle.trace.proofs.Passed.{current-within, entries-before, parts-apart, slot-some, slot-within, slots-end}
+use Rattle.trace.proofs.SameDumps.{dump-same, events-same, registry-same}
+use Rattle.trace.specs.Check.{answer, checkOf}
+use Rattle.trace.specs.Layout.{currentSlot, entryAt, entryCount, entrySize, headerOf, headerSize, slotAt, slotCount, slotSize}
+use Rattle.trace.specs.Names.{findName, nameBytes, nameOf, threadEntry}
+use Rattle.trace.specs.Slots.{eventCount, slotIn}
+use Rattle.trace.specs.Table.{dumpRows, eventRows, headerRows, row11, row12, row13, row16, row25}
+use Rattle.trace.specs.declared.Checked.the-variants as checked
+use Rattle.trace.specs.declared.Found.the-variants as found
+use Rattle.trace.specs.declared.Header.{Header}
+use Rattle.trace.specs.declared.Wanted.{Wanted}
+use Rattle.trace.specs.declared.Wanted.the-variants.{BadType, Free, InUse, Thread}
+use Rattle.writing.proofs.SameNames.{SameNamed, names-agree}
+use Rattle.writing.proofs.SameRegistry.{lowest-wanted, registry-kept}
+use Rattle.writing.proofs.Stores.{SameBut, same-header, same-slot}
+use Rattle.writing.specs.Table.{lowestEntry, row19, row20, row21, row22, row23}
+use Rattle.writing.specs.Writing.{Change, recording, recordingRows, registering, removing, said}
+use Rattle.writing.specs.Writing as writing
+use Rattle.writing.specs.declared.Outcome.the-variants as outcome
+use Rattle.demands.specs.Names.{nameShown}
+use Rattle.demands.specs.NotRead.{DifferOnlyThere, NotRead, SameAnswers}
+use Rattle.demands.proofs.SameLines.{event-name-same, event-same, line-same, listing-same}
+
+-- places that are read: of the header, and, where it passes, of an entry and of a slot
+header-read : (h : Header) (i : ℕ) → i < 36 → (i < 16) ⊎ (18 ≤ i) → NotRead h i → ⊥
+header-read h i below aside (inl (inl two)) = ⊎-elim (λ p. omega arith) (λ p. omega arith) aside
+header-read h i below aside (inl (inr last)) = omega arith
+header-read h i below aside (inr (inl (entry, inside, two))) = omega arith
+header-read h i below aside (inr (inr past)) = omega arith
+
+module _ (h : Header) (n : ℕ) (passed : firstBroken (headerRows h n) ≡ Passed) where
+  entry-read : (i k : ℕ) → i < entryCount h → k < entrySize h → (k < 2) ⊎ (4 ≤ k) → NotRead h (entryAt h i + k) → ⊥
+  entry-read i k below near aside (inl (inl two)) = omega arith
+  entry-read i k below near aside (inl (inr last)) = omega arith
+  entry-read i k below near aside (inr (inl (other, inside, two))) = by (ℕ-discrete i other)
+    where
+      by : Dec (i ≡ other) → ⊥
+      by (yes same) = let at : entryAt h i ≡ entryAt h other = ap (entryAt h) same in ⊎-elim (λ p. omega arith) (λ p. omega arith) aside
+      by (no differs) = ⊎-elim (λ p. omega arith) (λ p. omega arith) (parts-apart headerSize (entrySize h) i other differs)
+  entry-read i k below near aside (inr (inr past)) = omega (arith, entries-before h n passed, slots-end h n passed, mul-le-mul-right (entrySize h) below)
+
+  slot-read : (i k : ℕ) → i < slotCount h → k < slotSize h → NotRead h (slotAt h i + k) → ⊥
+  slot-read i k below near (inl (inl two)) = omega (arith, entries-before h n passed)
+  slot-read i k below near (inl (inr last)) = omega (arith, entries-before h n passed)
+  slot-read i k below near (inr (inl (entry, inside, two))) = omega (arith, entries-before h n passed, mul-le-mul-right (entrySize h) inside)
+  slot-read i k below near (inr (inr past)) = omega (arith, slot-within h n passed i below)
+
+-- of two calls that are refused alike, what one gives the other gives
+gave-refused : (rows more : List Row) (text other old new : List ℕ) (said : Listed) (f : Refusal) → firstBroken rows ≡ Refused f → firstBroken more ≡ Refused f
+    → Gave rows text old new said → Gave more other old new said
+gave-refused rows more text other old new said f here there gave =
+    record { answered = rw there (rw here at (gave .answered)); output = rw there (rw here at (gave .output)) }
+
+-- where rows 1 to 10 refuse, every call does
+module _ (s : List ℕ) (f : Refusal) (refused : firstBroken (headerRows (headerOf s) (length s)) ≡ Refused f) where
+  all-refused : (more : List Row) → firstBroken (headerRows (headerOf s) (length s) ++ more) ≡ Refused f
+  all-refused more = sym (then-refused (headerRows (headerOf s) (length s)) more f refused)
+
+  dump-refused : (more : List Row) → firstBroken (dumpRows s (headerOf s) ++ more) ≡ Refused f
+  dump-refused more = all-refused (row11 s (headerOf s) ∷ row12 s (headerOf s) ∷ row13 s (headerOf s) ∷ more)
+
+  check-refused : checkOf s ≡ checked.Refused f
+  unfolding checkOf
+  check-refused = rw (dump-refused [])
+
+  name-refused : (pointer : ℕ) → findName s pointer ≡ found.Refused f
+  unfolding findName
+  name-refused pointer = rw (all-refused (row11 s (headerOf s) ∷ []))
+
+  event-refused : (position : ℕ) → eventOf s position ≡ shown.Refused f
+  unfolding eventOf
+  event-refused position = rw (dump-refused (row25 position (eventCount s (headerOf s)) ∷ []))
+
+  said-refused : (c : Change) (more : List Row) → headerRows (headerOf s) (length s) ++ more ≡ c .rows → said c ≡ outcome.Refused f
+  said-refused c more all = ap (λ (v : Verdict). writing.answer v (c .gives)) (ap firstBroken (sym all) ∙ all-refused more)
+
+both-refused : (s t : List ℕ) (f : Refusal) → firstBroken (headerRows (headerOf s) (length s)) ≡ Refused f
+    → firstBroken (headerRows (headerOf t) (length t)) ≡ Refused f → SameAnswers s t
+unfolding nameBytes recording registering removing
+both-refused s t f here there = record {
+  check = check-refused t f there ∙ sym (check-refused s f here);
+  name = λ pointer. record { found = name-refused t f there pointer ∙ sym (name-refused s f here pointer); bytes = rw (name-refused s f here pointer) };
+  event = λ position. event-refused t f there position ∙ sym (event-refused s f here position);
+  event-name = λ position. rw (event-refused s f here position);
+  listing = λ r old new said. gave-refused _ _ _ _ old new said f (dump-refused s f here _) (dump-refused t f there _);
+  line = λ r position old new said. gave-refused _ _ _ _ old new said f (dump-refused s f here _) (dump-refused t f there _);
+  recording = λ slot. said-refused t f there (recording slot t) _ refl ∙ sym (said-refused s f here (recording slot s) _ refl);
+  registering = λ object name. said-refused t f there (registering object name t) _ refl ∙ sym (said-refused s f here (registering object name s) _ refl);
+  removing = λ pointer. said-refused t f there (removing pointer t) _ refl ∙ sym (said-refused s f here (removing pointer s) _ refl);
+}
+
+module _ (s t : List ℕ) (there : DifferOnlyThere s t) where
+  header-same : headerOf t ≡ headerOf s
+  header-same = same-header s t (λ k below aside. rw zero-add (there .same k (header-read (headerOf s) k below aside)))
+
+  module _ (passed : firstBroken (headerRows (headerOf s) (length s)) ≡ Passed) where
+    inside : currentSlot (headerOf s) < slotCount (headerOf s)
+    inside = current-within (headerOf s) (length s) passed
+
+    entries-same : (i : ℕ) → i < entryCount (headerOf s) → SameBut 2 s t (entryAt (headerOf s) i) (entrySize (headerOf s))
+    entries-same i below k near aside = there .same (entryAt (headerOf s) i + k) (entry-read (headerOf s) (length s) passed i k below near aside)
+
+    words-same : (i : ℕ) → i < slotCount (headerOf s) → slotIn (headerOf s .order) t (slotAt (headerOf s) i) ≡ slotIn (headerOf s .order) s (slotAt (headerOf s) i)
+    words-same i below =
+        same-slot (headerOf s .order) s t (slotAt (headerOf s) i)
+        (λ k near. there .same (slotAt (headerOf s) i + k) (slot-read (headerOf s) (length s) passed i k below (omega (arith, slot-some (headerOf s)))))
+
+    names-same : (pointer : ℕ) → SameNamed s t (nameOf s (headerOf s) pointer) (nameOf t (headerOf s) pointer)
+    names-same pointer =
+        names-agree s t (headerOf s) (there .size) pointer (lowest-wanted s t (headerOf s) entries-same (Thread pointer)) (entries-same (threadEntry s (headerOf s) pointer))
+
+    -- what the calls go by, of the headers that are read
+    rows : dumpRows t (headerOf t) ≡ dumpRows s (headerOf s)
+    rows =
+        ap (dumpRows t) header-same
+        ∙ dump-same s t (headerOf s) inside words-same (registry-same s t (headerOf s) (there .size) (lowest-wanted s t (headerOf s) entries-same BadType))
+
+    events : eventCount t (headerOf t) ≡ eventCount s (headerOf s)
+    events = ap (eventCount t) header-same ∙ events-same s t (headerOf s) inside words-same
+
+    event-at : (p : ℕ) → eventAt t (headerOf t) p ≡ eventAt s (headerOf s) p
+    event-at p = ap (λ (h : Header). eventAt t h p) header-same ∙ event-same s t (headerOf s) inside words-same names-same p
+
+    listing-text : (r : Reading) → listingText t (headerOf t) r ≡ listingText s (headerOf s) r
+    listing-text r = ap (λ (h : Header). listingText t h r) header-same ∙ listing-same s t (headerOf s) inside words-same names-same r
+
+    line-text : (r : Reading) (p : ℕ) → lineAt t (headerOf t) r p ≡ lineAt s (headerOf s) r p
+    line-text r p = ap (λ (h : Header). lineAt t h r p) header-same ∙ line-same s t (headerOf s) inside words-same names-same r p
+
+    -- a search of the registry ends at the same entry
+    entry-same : (w : Wanted) → lowestEntry w t (headerOf t) ≡ lowestEntry w s (headerOf s)
+    entry-same w = ap (lowestEntry w t) header-same ∙ lowest-wanted s t (headerOf s) entries-same w
+
+    both-passed : SameAnswers s t
+    unfolding checkOf eventOf nameBytes recording registering removing row20 row21 row22
+    both-passed = record {
+      check = λ k. answer (firstBroken (rows k)) (header-same k) (events k);
+      name = registry-kept s t (headerOf s .current) header-same entries-same (there .size) passed passed .names;
+      event = λ p k. given (firstBroken (rows k ++ (row25 p (events k) ∷ []))) (event-at p k);
+      event-name = λ p. name-bytes p (firstBroken (eventRows s (headerOf s) p));
+      listing = λ r old new said.
+          subst₂ (λ (rows : List Row) (text : List ℕ). Gave rows text old new said)
+          (λ k. sym rows k ++ (readingRows r (sym events k) ++ (row16 (length (sym (listing-text r) k)) (length old) ∷ []))) (sym (listing-text r));
+      line = λ r p old new said.
+          subst₂ (λ (rows : List Row) (text : List ℕ). Gave rows text old new said)
+          (λ k. sym rows k ++ (readingRows r (sym events k) ++ (row25 p (sym events k) ∷ row16 (length (sym (line-text r p) k)) (length old) ∷ []))) (sym (line-text r p));
+      recording = λ slot k. writing.answer (firstBroken (recordingRows (header-same k) (there .size k) slot)) (currentSlot (header-same k));
+      registering = λ object name k.
+          let used : ℕ = entry-same (InUse (object .pointer)) k in
+          let free : ℕ = entry-same Free k in
+          let count = entryCount (header-same k) in
+          writing.answer (firstBroken (headerRows (header-same k) (there .size k)
+          ++ (row19 (object .«object_type») ∷ row23 name ∷ rowAt 20 (ltb used count) used ∷ row 21 (not (ltb free count)) ∷ []))) free;
+      removing = λ pointer k.
+          let used : ℕ = entry-same (InUse pointer) k in
+          writing.answer (firstBroken (headerRows (header-same k) (there .size k) ++ (row 22 (not (ltb used (entryCount (header-same k)))) ∷ []))) used;
+    }
+      where
+        name-bytes : (p : ℕ) (v : Verdict) → let was = nameShown (given v (eventAt s (headerOf s) p)) in nameBytes t was ≡ nameBytes s was
+        name-bytes p (Refused f) = refl
+        name-bytes p Passed = event-name-same s t (headerOf s) inside words-same names-same p
+
+pub not-read : (s t : List ℕ) → DifferOnlyThere s t → SameAnswers s t
+not-read s t there = by (firstBroken (headerRows (headerOf s) (length s))) refl
+  where
+    by : (v : Verdict) → firstBroken (headerRows (headerOf s) (length s)) ≡ v → SameAnswers s t
+    by (Refused f) refused = both-refused s t f refused (ap₂ (λ (h : Header) (n : ℕ). firstBroken (headerRows h n)) (header-same s t there) (there .size) ∙ refused)
+    by Passed passed = both-passed s t there passed

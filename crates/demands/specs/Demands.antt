@@ -1,0 +1,176 @@
+-- The three demands, each sentence in quotes above what states it.
+use Prim.Native.Nat.{ℕ, suc, _+_, _*_, _^_, _≤_, _<_, min}
+use mathlib.Core.List.{List, [], _∷_, _++_, map}
+use mathlib.Core.Path.{_≡_}
+use lib.ListN.{drop, length, take}
+use Rattle.events.specs.Events.{eventAt, eventOf}
+use Rattle.events.specs.Listing.{Gave, fields, lineAt, lineRows, listingRows, listingText}
+use Rattle.events.specs.declared.Listed.{Listed}
+use Rattle.events.specs.declared.Listed.the-variants as listed
+use Rattle.events.specs.declared.Reading.{Reading}
+use Rattle.events.specs.declared.Shown.the-variants as shown
+use Rattle.rows.specs.Rows.{Row, firstBroken}
+use Rattle.rows.specs.declared.Refusal.{Refusal}
+use Rattle.rows.specs.declared.Verdict.the-variants.{Passed}
+use Rattle.text.specs.Numbers.{digits, isBare}
+use Rattle.trace.specs.Check.{checkOf}
+use Rattle.trace.specs.Layout.{headerOf}
+use Rattle.trace.specs.Names.{findName}
+use Rattle.trace.specs.Ring.{keep}
+use Rattle.trace.specs.Slots.{eventCount}
+use Rattle.trace.specs.Table.{dumpRows, eventRows, registryRows}
+use Rattle.trace.specs.declared.Checked.the-variants as checked
+use Rattle.trace.specs.declared.Found.the-variants as found
+use Rattle.trace.specs.declared.Header.{Header}
+use Rattle.trace.specs.declared.Slot.{Slot}
+use Rattle.words.specs.Words.{AreBytes}
+use Rattle.writing.specs.Arguments.{IsSlot}
+use Rattle.writing.specs.Writing.{Change, formatting, freshEnd, freshHeader, left, recording, registering, removing, said}
+use Rattle.writing.specs.declared.Format.{Format}
+use Rattle.writing.specs.declared.Object.{Object}
+use Rattle.writing.specs.declared.Outcome.the-variants as outcome
+use Rattle.demands.specs.BareNumbers.{BareNumbers}
+use Rattle.demands.specs.Each.{Each}
+use Rattle.demands.specs.Gives.{Gives}
+use Rattle.demands.specs.History.{Call, NeverBack, Typed, Write, acceptedWrites, after, lastOf, sinceOldest, trueGap, wholeRanges}
+use Rattle.demands.specs.JsonNumbers.{jsonNumbers, listedNumbers, numbersOf}
+use Rattle.demands.specs.Keys.{Keys}
+use Rattle.demands.specs.Layouts.{Layouts}
+use Rattle.demands.specs.Masks.{Masks, range}
+use Rattle.demands.specs.Names.{Names}
+use Rattle.demands.specs.NotRead.{DifferOnlyThere, SameAnswers}
+use Rattle.demands.specs.Offsets.{Offsets}
+use Rattle.demands.specs.OrderAndTime.{OrderAndTime}
+use Rattle.demands.specs.Patterns.{Patterns}
+use Rattle.demands.specs.Refusals.{Orders, Places, Refuses}
+use Rattle.demands.specs.Shown.{ReadingAccepted, linesOf, shownMicroseconds, shownTicks}
+use Rattle.demands.specs.Texts.{Texts}
+use Rattle.demands.specs.Turns.{Turns}
+use Rattle.demands.specs.Writings.{Accepted, Formatted, Recorded, Registered, Removed}
+
+-- THE FIRST DEMAND
+
+-- a call that prints, and one that writes: refused exactly by the first broken row, and then every lent byte is as before
+abbrev pub Prints : List Row → List ℕ → List ℕ → Listed → Type 0
+Prints rows old new answer = Refuses listed.Refused rows answer × ((f : Refusal) → answer ≡ listed.Refused f → new ≡ old)
+
+abbrev pub Writes : Change → List ℕ → Type 0
+Writes c s = Refuses outcome.Refused (c .rows) (said c) × ((f : Refusal) → said c ≡ outcome.Refused f → left c s ≡ s)
+
+-- "Any bytes and any arguments get an answer." "No caller is asked to have checked anything." That nothing is asked is said of the contracts themselves:
+-- `asks-nothing` in `library` (`contracts`). That each function then ends, with an answer that its contract allows, is what its own proof says.
+-- "A dump that breaks a rule which the call checks is refused with the number and place that document 01 gives, and then no lent buffer is altered."
+pub record FirstDemand : Type 0 where
+  -- the rows that each call checks, by their numbers and places
+  pub orders : Orders
+  pub places : Places
+  -- calls that are lent a dump to be read
+  pub checking : (s : List ℕ) → Refuses checked.Refused (dumpRows s (headerOf s)) (checkOf s)
+  pub finding : (s : List ℕ) (pointer : ℕ) → Refuses found.Refused (registryRows s (headerOf s)) (findName s pointer)
+  pub event : (s : List ℕ) (position : ℕ) → Refuses shown.Refused (eventRows s (headerOf s) position) (eventOf s position)
+  -- calls that are lent output too, old before the call and new after it
+  pub listing : (s : List ℕ) (r : Reading) (old new : List ℕ) (answer : Listed)
+      → Gave (listingRows s (headerOf s) r (length old)) (listingText s (headerOf s) r) old new answer
+      → Prints (listingRows s (headerOf s) r (length old)) old new answer
+  pub line : (s : List ℕ) (r : Reading) (position : ℕ) (old new : List ℕ) (answer : Listed)
+      → Gave (lineRows s (headerOf s) r position (length old)) (lineAt s (headerOf s) r position) old new answer
+      → Prints (lineRows s (headerOf s) r position (length old)) old new answer
+  -- calls that are lent a buffer to be written
+  pub formatting : (f : Format) (s : List ℕ) → Writes (formatting f s) s
+  pub recording : (slot : Slot) (s : List ℕ) → Writes (recording slot s) s
+  pub registering : (object : Object) (name s : List ℕ) → Writes (registering object name s) s
+  pub removing : (pointer : ℕ) (s : List ℕ) → Writes (removing pointer s) s
+
+-- THE SECOND DEMAND
+
+pub record SecondDemand : Type 0 where
+  -- "Reading follows chapter 11 of the ThreadX guide as 01 condenses it, for both byte orders, and so does the writer that formats, records and registers."
+  -- what is written is read back
+  pub one-description : Layouts
+  -- the id, the mask, offsets, the used/unused rule, order and time, and names, in document 01's words
+  pub patterns : (s : List ℕ) → AreBytes s → Patterns s
+  pub masks : Masks
+  pub offsets : Offsets
+  pub turns : (s : List ℕ) (h : Header) → Turns s h
+  pub order-and-time : (s : List ℕ) (h : Header) → firstBroken (dumpRows s h) ≡ Passed → OrderAndTime s h
+  pub names : (s : List ℕ) → Names s
+  -- reserved fields and bytes past the buffer end are not read
+  pub not-read : (s t : List ℕ) → DifferOnlyThere s t → SameAnswers s t
+  -- what the writer leaves, arguments having the width that their types say
+  pub formats : (f : Format) (s : List ℕ) → f .base < 2 ^ 32 → Accepted (formatting f s)
+      → Formatted f s (left (formatting f s) s) (freshHeader f (freshEnd f (length s)))
+  pub records : (slot : Slot) (s : List ℕ) → IsSlot slot → Accepted (recording slot s) → Recorded slot s (left (recording slot s) s) (headerOf s)
+  pub registers : (object : Object) (name s : List ℕ) → object .pointer < 2 ^ 32 → Accepted (registering object name s)
+      → Registered object name s (left (registering object name s) s) (headerOf s)
+  pub removes : (pointer : ℕ) (s : List ℕ) → Accepted (removing pointer s) → Removed pointer s (left (removing pointer s) s) (headerOf s)
+  -- what the calls give
+  pub gives : Gives
+  -- "The listing is the one text that 01 defines,": its length is given, it stands in the output, and output past it keeps its bytes
+  pub listing : (s : List ℕ) (r : Reading) (old new : List ℕ) (n : ℕ)
+      → let text = listingText s (headerOf s) r in
+      Gave (listingRows s (headerOf s) r (length old)) text old new (listed.Written n) → (n ≡ length text) × (new ≡ text ++ drop n old)
+  pub line : (s : List ℕ) (r : Reading) (position : ℕ) (old new : List ℕ) (n : ℕ)
+      → let text = lineAt s (headerOf s) r position in
+      Gave (lineRows s (headerOf s) r position (length old)) text old new (listed.Written n) → (n ≡ length text) × (new ≡ text ++ drop n old)
+  -- each line is ended by byte 0A and has no other; an empty ring gives no bytes
+  pub one-line : (s : List ℕ) (h : Header) (r : Reading) (position : ℕ)
+      → (body : List ℕ) × (lineAt s h r position ≡ body ++ (0x0A ∷ [])) × Each (λ c. c ≡ 0x0A → ⊥) body
+  pub empty-ring : (s : List ℕ) (h : Header) (r : Reading) → eventCount s h ≡ 0 → listingText s h r ≡ []
+  -- what is printed reads back
+  pub texts : Texts
+  -- "and no whole number above two to the fifty-third leaves as a JSON number.": in what was written, the JSON numbers are the digits of the lines' bare
+  -- numbers, in their order, and nothing else
+  pub numbers : (s : List ℕ) (r : Reading) (old new : List ℕ) (n : ℕ)
+      → Gave (listingRows s (headerOf s) r (length old)) (listingText s (headerOf s) r) old new (listed.Written n)
+      → jsonNumbers (take n new) ≡ map digits (keep isBare (listedNumbers s (headerOf s) r))
+  pub line-numbers : (s : List ℕ) (r : Reading) (position : ℕ) (old new : List ℕ) (n : ℕ)
+      → Gave (lineRows s (headerOf s) r position (length old)) (lineAt s (headerOf s) r position) old new (listed.Written n)
+      → jsonNumbers (take n new) ≡ map digits (keep isBare (numbersOf (fields r position (eventAt s (headerOf s) position))))
+  -- a bare number is at most two to the fifty-third, and its double is exact and turns back
+  pub bare-numbers : BareNumbers
+  -- events have keys of their own
+  pub keys : Keys
+
+-- THE THIRD DEMAND
+
+-- what a buffer t of n slots shows after k accepted writes
+pub record Shows (mask k n : ℕ) (writes : List Write) (t : List ℕ) : Type 0 where
+  -- the dump passes the whole check
+  pub passes : checkOf t ≡ checked.Sound (headerOf t) (min k n)
+  -- "A reading whose rate, unit, serial and output room are accepted then lists the last min(k, n) events, oldest first, with pointer, field, id and
+  -- information words as written."
+  pub lists : (r : Reading) (old new : List ℕ) (answer : Listed) → ReadingAccepted r (min k n)
+      → let text = linesOf t r (lastOf n writes) in
+      length text ≤ length old
+      → Gave (listingRows t (headerOf t) r (length old)) (listingText t (headerOf t) r) old new answer
+      → (answer ≡ listed.Written (length text)) × (new ≡ text ++ drop (length text) old)
+  -- "A true gap is the difference of the true times of two neighbouring listed events." (`trueGap`)
+  -- "For each event, the shown ticks plus the timer range times the whole ranges contained in each true gap from the oldest listed event up to it, summed,
+  -- is the true time since that oldest event."
+  pub ticks : NeverBack writes → (p : ℕ) → p < min k n
+      → shownTicks t p + range mask * wholeRanges (range mask) (lastOf n writes) p ≡ sinceOldest (lastOf n writes) p
+  -- "So it is exact if no true gap reaches the range."
+  pub exact : NeverBack writes → ((i : ℕ) → suc i < min k n → trueGap (lastOf n writes) i < range mask)
+      → (p : ℕ) → p < min k n → shownTicks t p ≡ sinceOldest (lastOf n writes) p
+  -- "The shown microseconds never pass the shown ticks' exact time and fall short of it by less than one:
+  -- times the rate they are at most the ticks times 1,000,000, and with one more they would be above."
+  pub not-above : (r : Reading) (p : ℕ) → 1 ≤ r .rate → shownMicroseconds t r p * r .rate ≤ shownTicks t p * 1000000
+  pub one-more : (r : Reading) (p : ℕ) → 1 ≤ r .rate → shownTicks t p * 1000000 < suc (shownMicroseconds t r p) * r .rate
+
+-- "Take a freshly formatted buffer of n slots and k accepted writes at true times that never go back, each write given its time modulo two to the 32;
+-- refused calls, registrations and removals may come between." (That true times never go back is asked only where times are shown. Calls that read, and a
+-- formatting that is refused, are not among `calls`: they leave every byte of the buffer, by their type and by `FirstDemand`.)
+abbrev pub ThirdDemandAt : ℕ → ℕ → (Slot → List ℕ → Change) → Type 0
+ThirdDemandAt k n recorder =
+    (f : Format) (s : List ℕ) (calls : List Call) → f .base < 2 ^ 32 → said (formatting f s) ≡ outcome.Done n → Each Typed calls
+    → let fresh = left (formatting f s) s in
+    let writes = acceptedWrites recorder calls fresh in
+    length writes ≡ k → Shows (f .mask) k n writes (after recorder calls fresh)
+
+abbrev pub ThirdDemand : (Slot → List ℕ → Change) → Type 0
+ThirdDemand recorder = (k n : ℕ) → ThirdDemandAt k n recorder
+
+pub record Demands : Type 0 where
+  pub first : FirstDemand
+  pub second : SecondDemand
+  pub third : ThirdDemand recording

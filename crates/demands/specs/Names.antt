@@ -1,0 +1,66 @@
+-- Names in document 01's own words: whose name it is, where it begins and ends, and by what an event's name is sought.
+use Prim.Native.Nat.{ℕ, _+_, _≤_, _<_}
+use mathlib.Core.Bool.{true}
+use mathlib.Core.List.{List}
+use mathlib.Core.Logic.{_⊎_}
+use mathlib.Core.Path.{_≡_}
+use lib.ListN.{getD, length}
+use Rattle.events.specs.Events.{contextOf, eventOf}
+use Rattle.events.specs.declared.Event.{Event}
+use Rattle.events.specs.declared.Shown.{Shown}
+use Rattle.events.specs.declared.Shown.the-variants as shown
+use Rattle.rows.specs.declared.Refusal.{Refusal}
+use Rattle.text.specs.declared.Context.the-variants.{Init, Isr, Thread}
+use Rattle.trace.specs.Layout.{headerOf, entryAt, entryCount}
+use Rattle.trace.specs.Names.{findName, nameFound, nameOf, nameSize, nameStart}
+use Rattle.trace.specs.Registry.{isInUse, pointerAt, typeAt}
+use Rattle.trace.specs.declared.Found.the-variants as found
+use Rattle.trace.specs.declared.Header.{Header}
+use Rattle.trace.specs.declared.Name.{Name}
+use Rattle.trace.specs.declared.Name.the-variants.{Named, Nameless}
+
+-- an in-use entry of type 1 with a pointer
+abbrev pub IsThread : List ℕ → Header → ℕ → ℕ → Type 0
+IsThread s h pointer i = (isInUse s (entryAt h i) ≡ true) × (typeAt s (entryAt h i) ≡ 1) × (pointerAt (h .order) s (entryAt h i) ≡ pointer)
+
+-- the lowest such entry
+pub record Lowest (s : List ℕ) (h : Header) (pointer i : ℕ) : Type 0 where
+  pub below : i < entryCount h
+  pub is : IsThread s h pointer i
+  pub no-lower : (j : ℕ) → j < i → IsThread s h pointer j → ⊥
+
+-- a name begins at an entry's 16 and runs to its first zero byte or the name size
+pub record Extends (s : List ℕ) (h : Header) (i at size : ℕ) : Type 0 where
+  pub begins : at ≡ entryAt h i + 16
+  pub no-zero : (k : ℕ) → k < size → getD s (at + k) 0 ≡ 0 → ⊥
+  pub ends : (size ≡ h .«name_size») ⊎ ((size < h .«name_size») × (getD s (at + size) 0 ≡ 0))
+
+-- the name in an answer about an event: none in a refusal
+abbrev pub nameShown : Shown → Name
+nameShown (shown.Refused f) = Nameless
+nameShown (shown.Given event) = event .name
+
+abbrev pub LiesWithin : Name → List ℕ → Type 0
+LiesWithin name s = nameStart name + nameSize name ≤ length s
+
+pub record Names (s : List ℕ) : Type 0 where
+  -- the name for a pointer is that of the lowest in-use entry of type 1 with it; where there is none, no entry is such
+  pub named : (pointer at size : ℕ) → nameOf s (headerOf s) pointer ≡ Named at size → (i : ℕ) × Lowest s (headerOf s) pointer i × Extends s (headerOf s) i at size
+  pub nameless : (pointer : ℕ) → nameOf s (headerOf s) pointer ≡ Nameless → (i : ℕ) → i < entryCount (headerOf s) → IsThread s (headerOf s) pointer i → ⊥
+  -- finding a name gives that, whatever the pointer's context
+  pub searched : (pointer : ℕ) (name : Name) → findName s pointer ≡ found.Searched name → name ≡ nameOf s (headerOf s) pointer
+  -- it lies within the dump, whatever the bytes; where there is none, and in a refusal, its length is 0 (that the part handed back is this one: `calls` in
+  -- `contracts`)
+  pub within : (pointer : ℕ) → LiesWithin (nameFound (findName s pointer)) s
+  pub none-empty : (pointer : ℕ) → findName s pointer ≡ found.Searched Nameless → nameSize (nameFound (findName s pointer)) ≡ 0
+  pub refused-empty : (pointer : ℕ) (f : Refusal) → findName s pointer ≡ found.Refused f → nameSize (nameFound (findName s pointer)) ≡ 0
+  -- an event's context is by its thread pointer: 0xF0F0F0F0 is "init", 0xFFFFFFFF is "isr", others "thread"
+  pub init : contextOf 0xF0F0F0F0 ≡ Init
+  pub isr : contextOf 0xFFFFFFFF ≡ Isr
+  pub thread : (pointer : ℕ) → (pointer ≡ 0xF0F0F0F0 → ⊥) → (pointer ≡ 0xFFFFFFFF → ⊥) → contextOf pointer ≡ Thread
+  -- its name is found by the thread pointer for "thread", by the priority field for "isr"; for "init" there is none
+  pub event-by : (position : ℕ) (e : Event) → eventOf s position ≡ shown.Given e → e .by ≡ contextOf (e .slot .pointer)
+  pub thread-name : (position : ℕ) (e : Event) → eventOf s position ≡ shown.Given e → e .by ≡ Thread → e .name ≡ nameOf s (headerOf s) (e .slot .pointer)
+  pub isr-name : (position : ℕ) (e : Event) → eventOf s position ≡ shown.Given e → e .by ≡ Isr → e .name ≡ nameOf s (headerOf s) (e .slot .field)
+  pub init-name : (position : ℕ) (e : Event) → eventOf s position ≡ shown.Given e → e .by ≡ Init → e .name ≡ Nameless
+  pub event-within : (position : ℕ) → LiesWithin (nameShown (eventOf s position)) s

@@ -1,0 +1,60 @@
+-- Reserved fields and bytes past the buffer end may hold anything and are not read: dumps that differ only there get the same answers.
+use Prim.Native.Nat.{ℕ, _+_, _≤_, _<_}
+use mathlib.Core.List.{List}
+use mathlib.Core.Logic.{_⊎_}
+use mathlib.Core.Path.{_≡_}
+use lib.ListN.{getD, length}
+use Rattle.events.specs.Events.{eventOf}
+use Rattle.events.specs.Listing.{Gave, lineAt, lineRows, listingRows, listingText}
+use Rattle.events.specs.declared.Listed.{Listed}
+use Rattle.events.specs.declared.Reading.{Reading}
+use Rattle.trace.specs.Check.{checkOf}
+use Rattle.trace.specs.Layout.{headerOf, headerSize, bufferEnd, entryAt, entryCount}
+use Rattle.trace.specs.Names.{nameBytes}
+use Rattle.trace.specs.declared.Header.{Header}
+use Rattle.trace.specs.declared.Slot.{Slot}
+use Rattle.writing.specs.Keeping.{SameName}
+use Rattle.writing.specs.Writing.{recording, registering, removing, said}
+use Rattle.writing.specs.declared.Object.{Object}
+use Rattle.demands.specs.Names.{nameShown}
+
+-- a place that is among the n from another on
+abbrev pub Within : ℕ → ℕ → ℕ → Type 0
+Within at n i = (at ≤ i) × (i < at + n)
+
+-- the header's reserved fields, at 16 (16 bits), 36, 40 and 44
+abbrev pub ReservedInHeader : ℕ → Type 0
+ReservedInHeader i = Within 16 2 i ⊎ Within 36 12 i
+
+-- an entry's two reserved bytes
+abbrev pub ReservedInEntry : Header → ℕ → Type 0
+ReservedInEntry h i = (entry : ℕ) × (entry < entryCount h) × Within (entryAt h entry + 2) 2 i
+
+-- bytes past the buffer end (which, whatever a damaged header says, are none of the header's)
+abbrev pub PastEnd : Header → ℕ → Type 0
+PastEnd h i = (headerSize ≤ i) × (bufferEnd h ≤ i)
+
+abbrev pub NotRead : Header → ℕ → Type 0
+NotRead h i = ReservedInHeader i ⊎ (ReservedInEntry h i ⊎ PastEnd h i)
+
+-- two dumps of one length that differ only there
+pub record DifferOnlyThere (s t : List ℕ) : Type 0 where
+  pub size : length t ≡ length s
+  pub same : (i : ℕ) → (NotRead (headerOf s) i → ⊥) → getD t i 0 ≡ getD s i 0
+
+-- what the calls answer: checking; finding a name, and the name's bytes; one event, and its name's bytes; the listing and one line, with all that they leave
+-- of the output; and what recording, registering and removing say
+pub record SameAnswers (s t : List ℕ) : Type 0 where
+  pub check : checkOf t ≡ checkOf s
+  pub name : (pointer : ℕ) → SameName s t pointer
+  pub event : (position : ℕ) → eventOf t position ≡ eventOf s position
+  pub event-name : (position : ℕ) → nameBytes t (nameShown (eventOf s position)) ≡ nameBytes s (nameShown (eventOf s position))
+  pub listing : (r : Reading) (old new : List ℕ) (said : Listed)
+      → Gave (listingRows s (headerOf s) r (length old)) (listingText s (headerOf s) r) old new said
+      → Gave (listingRows t (headerOf t) r (length old)) (listingText t (headerOf t) r) old new said
+  pub line : (r : Reading) (position : ℕ) (old new : List ℕ) (said : Listed)
+      → Gave (lineRows s (headerOf s) r position (length old)) (lineAt s (headerOf s) r position) old new said
+      → Gave (lineRows t (headerOf t) r position (length old)) (lineAt t (headerOf t) r position) old new said
+  pub recording : (slot : Slot) → said (recording slot t) ≡ said (recording slot s)
+  pub registering : (object : Object) (name : List ℕ) → said (registering object name t) ≡ said (registering object name s)
+  pub removing : (pointer : ℕ) → said (removing pointer t) ≡ said (removing pointer s)
