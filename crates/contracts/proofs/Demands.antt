@@ -5,13 +5,15 @@ use mathlib.Core.Path.{sym, _∙_}
 use denote.Ref.{now}
 use Rattle.demands.proofs.Demands.{demands}
 use Rattle.demands.proofs.Refusals.{writes}
+use Rattle.demands.specs.Refusals.{RefusesAndKeeps}
 use Rattle.writing.specs.Writing.{Change, formatting, recording, registering, removing}
 use Rattle.writing.specs.declared.Outcome.{Outcome}
+use Rattle.writing.specs.declared.Outcome.the-variants as outcome
 use Rattle.contracts.specs.Calls.{Changed}
-use Rattle.contracts.specs.Demands.{CallsRefuse, NumbersLeave, Writes}
+use Rattle.contracts.specs.Demands.{CallsRefuse, NumbersLeave}
 use Rattle.contracts.proofs.Calls.{calls}
 
-changed-writes : (change : List ℕ → Change) (old new : List ℕ) (x : Outcome) → Changed change old new x → Writes change old new x
+changed-writes : (change : List ℕ → Change) (old new : List ℕ) (x : Outcome) → Changed change old new x → RefusesAndKeeps outcome.Refused (change old .rows) old new x
 changed-writes change old new x did = (rw (did .0) (writes (change old) old .0), λ f e. did .1 ∙ writes (change old) old .1 f (sym (did .0) ∙ e))
 
 pub calls-refuse : CallsRefuse

@@ -1,23 +1,21 @@
 -- The first demand, and the last clause of the second, of the functions themselves: whatever answers the contracts of the nine calls of document 01 allow.
 use Prim.Native.Nat.{ℕ}
-use mathlib.Core.List.{List, map}
+use mathlib.Core.List.{map}
 use mathlib.Core.Path.{_≡_}
 use denote.Ref.{now}
 use lib.ListN.{length, take}
-use Rattle.demands.specs.Demands.{Prints}
 use Rattle.demands.specs.JsonNumbers.{jsonNumbers, listedNumbers, numbersOf}
-use Rattle.demands.specs.Refusals.{Refuses}
+use Rattle.demands.specs.Refusals.{Refuses, RefusesAndKeeps}
 use Rattle.dump.proofs as dump
 use Rattle.events.specs.Events.{eventAt}
 use Rattle.events.specs.Listing.{fields, lineRows, listingRows}
-use Rattle.events.specs.declared.Listed.the-variants.{Written}
+use Rattle.events.specs.declared.Listed.the-variants as listed
 use Rattle.events.specs.declared.Shown.the-variants as shown
 use Rattle.finder.proofs as finder
 use Rattle.formatter.proofs as formatter
 use Rattle.listing.proofs as listing
 use Rattle.recorder.proofs as recorder
 use Rattle.registrar.proofs as registrar
-use Rattle.rows.specs.declared.Refusal.{Refusal}
 use Rattle.text.specs.Numbers.{digits, isBare}
 use Rattle.trace.specs.Layout.{headerOf}
 use Rattle.trace.specs.Ring.{keep}
@@ -25,14 +23,9 @@ use Rattle.trace.specs.Table.{dumpRows, eventRows, registryRows}
 use Rattle.trace.specs.declared.Checked.the-variants as checked
 use Rattle.trace.specs.declared.Found.the-variants as found
 use Rattle.walk.proofs as walk
-use Rattle.writing.specs.Writing.{Change, formatting, recording, registering, removing}
-use Rattle.writing.specs.declared.Outcome.{Outcome}
+use Rattle.writing.specs.Writing.{formatting, recording, registering, removing}
 use Rattle.writing.specs.declared.Outcome.the-variants as outcome
 use Rattle.contracts.specs.Calls.{Allows}
-
--- a call that writes: refused exactly by the first broken row, and then every byte of the buffer is as before
-abbrev pub Writes : (List ℕ → Change) → List ℕ → List ℕ → Outcome → Type 0
-Writes change old new x = Refuses outcome.Refused (change old .rows) x × ((f : Refusal) → x ≡ outcome.Refused f → new ≡ old)
 
 -- refused with number and place exactly when the first row in the call's order is broken, and then every lent byte is as before
 pub record CallsRefuse : Type 0 where
@@ -51,30 +44,34 @@ pub record CallsRefuse : Type 0 where
   -- line(dump, reading, position, out)
   pub line : Allows listing.line.ended listing.line.Reads.Learnt (λ κs a x last.
       let s = now (a .0) in let reading = a .1 .0 in let position = a .1 .1 .0 in let old = now (a .1 .1 .1 .0) in let new = last .1 .1 .1 .0 in
-      Prints (lineRows s (headerOf s) reading position (length old)) old new x)
+      RefusesAndKeeps listed.Refused (lineRows s (headerOf s) reading position (length old)) old new x)
   -- listing(dump, reading, out)
   pub listing : Allows listing.listing.ended listing.listing.Reads.Learnt (λ κs a x last.
       let s = now (a .0) in let reading = a .1 .0 in let old = now (a .1 .1 .0) in let new = last .1 .1 .0 in
-      Prints (listingRows s (headerOf s) reading (length old)) old new x)
+      RefusesAndKeeps listed.Refused (listingRows s (headerOf s) reading (length old)) old new x)
   -- format(buffer, format)
   pub format : Allows formatter.format.ended formatter.format.Reads.Learnt (λ κs a x last.
-      Writes (formatting (a .1 .0)) (now (a .0)) (last .0) x)
+      let old = now (a .0) in let format = a .1 .0 in let new = last .0 in
+      RefusesAndKeeps outcome.Refused (formatting format old .rows) old new x)
   -- record(buffer, slot)
   pub «record» : Allows recorder.«record».ended recorder.«record».Reads.Learnt (λ κs a x last.
-      Writes (recording (a .1 .0)) (now (a .0)) (last .0) x)
+      let old = now (a .0) in let slot = a .1 .0 in let new = last .0 in
+      RefusesAndKeeps outcome.Refused (recording slot old .rows) old new x)
   -- register(buffer, object, name)
   pub register : Allows registrar.register.ended registrar.register.Reads.Learnt (λ κs a x last.
-      Writes (registering (a .1 .0) (now (a .1 .1 .0))) (now (a .0)) (last .0) x)
+      let old = now (a .0) in let object = a .1 .0 in let name = now (a .1 .1 .0) in let new = last .0 in
+      RefusesAndKeeps outcome.Refused (registering object name old .rows) old new x)
   -- remove(buffer, pointer)
   pub remove : Allows registrar.remove.ended registrar.remove.Reads.Learnt (λ κs a x last.
-      Writes (removing (a .1 .0)) (now (a .0)) (last .0) x)
+      let old = now (a .0) in let pointer = a .1 .0 in let new = last .0 in
+      RefusesAndKeeps outcome.Refused (removing pointer old .rows) old new x)
 
 -- of the second demand its last clause: in what leaves, the JSON numbers are the digits of the lines' numbers up to two to the fifty-third, in their order.
 -- (The rest of it is of the definitions, and `calls` says that these are what the contracts allow.)
 pub record NumbersLeave : Type 0 where
   pub line : Allows listing.line.ended listing.line.Reads.Learnt (λ κs a x last.
       let s = now (a .0) in let reading = a .1 .0 in let position = a .1 .1 .0 in let new = last .1 .1 .1 .0 in
-      (n : ℕ) → x ≡ Written n → jsonNumbers (take n new) ≡ map digits (keep isBare (numbersOf (fields reading position (eventAt s (headerOf s) position)))))
+      (n : ℕ) → x ≡ listed.Written n → jsonNumbers (take n new) ≡ map digits (keep isBare (numbersOf (fields reading position (eventAt s (headerOf s) position)))))
   pub listing : Allows listing.listing.ended listing.listing.Reads.Learnt (λ κs a x last.
       let s = now (a .0) in let reading = a .1 .0 in let new = last .1 .1 .0 in
-      (n : ℕ) → x ≡ Written n → jsonNumbers (take n new) ≡ map digits (keep isBare (listedNumbers s (headerOf s) reading)))
+      (n : ℕ) → x ≡ listed.Written n → jsonNumbers (take n new) ≡ map digits (keep isBare (listedNumbers s (headerOf s) reading)))

@@ -31,9 +31,9 @@ use Rattle.writing.specs.Table.{row17, row18, row19, row20, row21, row22, row23
 use Rattle.writing.specs.Writing.{Change, formatting, recording, registering, removing, said}
 use Rattle.writing.specs.Writing as writing
 use Rattle.writing.specs.declared.Outcome.the-variants as outcome
-use Rattle.demands.specs.Demands.{FirstDemand, Prints, Writes}
+use Rattle.demands.specs.Demands.{FirstDemand, Writes}
 use Rattle.demands.specs.Each.{Each}
-use Rattle.demands.specs.Refusals.{FirstBroken, Orders, Places, Refuses}
+use Rattle.demands.specs.Refusals.{FirstBroken, Orders, Places, Refuses, RefusesAndKeeps}
 
 -- the first broken row, found and given back
 one-more : (r : Row) (rows : List Row) (f : Refusal) → r .broken ≡ false → FirstBroken rows f → FirstBroken (r ∷ rows) f
@@ -98,7 +98,7 @@ outcome-tells : (n : ℕ) (v : Verdict) (f : Refusal) → writing.answer v n ≡
 outcome-tells n (Refused g) f e = cc
 outcome-tells n Passed f e = cc
 
-pub prints : (rows : List Row) (text old new : List ℕ) (said : Listed) → Gave rows text old new said → Prints rows old new said
+pub prints : (rows : List Row) (text old new : List ℕ) (said : Listed) → Gave rows text old new said → RefusesAndKeeps listed.Refused rows old new said
 prints rows text old new said gave = (
   rw (gave .answered) (refuses listed.Refused (λ v. listing.answer v (length text)) (λ f. refl) (listed-tells (length text)) rows),
   λ f e. gave .output ∙ ap (λ (v : Verdict). written v text ++ drop (length (written v text)) old) (listed-tells (length text) (firstBroken rows) f (sym (gave .answered) ∙ e)),

@@ -9,8 +9,7 @@ use Rattle.events.specs.declared.Listed.{Listed}
 use Rattle.events.specs.declared.Listed.the-variants as listed
 use Rattle.events.specs.declared.Reading.{Reading}
 use Rattle.events.specs.declared.Shown.the-variants as shown
-use Rattle.rows.specs.Rows.{Row, firstBroken}
-use Rattle.rows.specs.declared.Refusal.{Refusal}
+use Rattle.rows.specs.Rows.{firstBroken}
 use Rattle.rows.specs.declared.Verdict.the-variants.{Passed}
 use Rattle.text.specs.Numbers.{digits, isBare}
 use Rattle.trace.specs.Check.{checkOf}
@@ -42,7 +41,7 @@ use Rattle.demands.specs.NotRead.{DifferOnlyThere, SameAnswers}
 use Rattle.demands.specs.Offsets.{Offsets}
 use Rattle.demands.specs.OrderAndTime.{OrderAndTime}
 use Rattle.demands.specs.Patterns.{Patterns}
-use Rattle.demands.specs.Refusals.{Orders, Places, Refuses}
+use Rattle.demands.specs.Refusals.{Orders, Places, Refuses, RefusesAndKeeps}
 use Rattle.demands.specs.Shown.{ReadingAccepted, linesOf, shownMicroseconds, shownTicks}
 use Rattle.demands.specs.Texts.{Texts}
 use Rattle.demands.specs.Turns.{Turns}
@@ -50,12 +49,9 @@ use Rattle.demands.specs.Writings.{Accepted, Formatted, Recorded, Regist
 
 -- THE FIRST DEMAND
 
--- a call that prints, and one that writes: refused exactly by the first broken row, and then every lent byte is as before
-abbrev pub Prints : List Row → List ℕ → List ℕ → Listed → Type 0
-Prints rows old new answer = Refuses listed.Refused rows answer × ((f : Refusal) → answer ≡ listed.Refused f → new ≡ old)
-
+-- a call that writes into a buffer s
 abbrev pub Writes : Change → List ℕ → Type 0
-Writes c s = Refuses outcome.Refused (c .rows) (said c) × ((f : Refusal) → said c ≡ outcome.Refused f → left c s ≡ s)
+Writes c s = RefusesAndKeeps outcome.Refused (c .rows) s (left c s) (said c)
 
 -- "Any bytes and any arguments get an answer." "No caller is asked to have checked anything." That nothing is asked is said of the contracts themselves:
 -- `asks-nothing` in `library` (`contracts`). That each function then ends, with an answer that its contract allows, is what its own proof says.
@@ -68,13 +64,13 @@ pub record FirstDemand : Type 0 where
   pub checking : (s : List ℕ) → Refuses checked.Refused (dumpRows s (headerOf s)) (checkOf s)
   pub finding : (s : List ℕ) (pointer : ℕ) → Refuses found.Refused (registryRows s (headerOf s)) (findName s pointer)
   pub event : (s : List ℕ) (position : ℕ) → Refuses shown.Refused (eventRows s (headerOf s) position) (eventOf s position)
-  -- calls that are lent output too, old before the call and new after it
+  -- calls that are lent output too
   pub listing : (s : List ℕ) (r : Reading) (old new : List ℕ) (answer : Listed)
       → Gave (listingRows s (headerOf s) r (length old)) (listingText s (headerOf s) r) old new answer
-      → Prints (listingRows s (headerOf s) r (length old)) old new answer
+      → RefusesAndKeeps listed.Refused (listingRows s (headerOf s) r (length old)) old new answer
   pub line : (s : List ℕ) (r : Reading) (position : ℕ) (old new : List ℕ) (answer : Listed)
       → Gave (lineRows s (headerOf s) r position (length old)) (lineAt s (headerOf s) r position) old new answer
-      → Prints (lineRows s (headerOf s) r position (length old)) old new answer
+      → RefusesAndKeeps listed.Refused (lineRows s (headerOf s) r position (length old)) old new answer
   -- calls that are lent a buffer to be written
   pub formatting : (f : Format) (s : List ℕ) → Writes (formatting f s) s
   pub recording : (slot : Slot) (s : List ℕ) → Writes (recording slot s) s

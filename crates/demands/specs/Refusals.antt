@@ -1,4 +1,4 @@
--- Refusals in document 01's own words: a call is refused by the first row, in its order of checks, that is broken; and the orders, as numbers.
+-- Refusals in document 01's own words: a call is refused by the first row, in its order of checks, that is broken; and the orders, as numbers and places.
 use Prim.Native.Nat.{ℕ}
 use mathlib.Core.Bool.{true, false}
 use mathlib.Core.List.{List, [], _∷_, _++_, map}
@@ -37,6 +37,10 @@ pub record FirstBroken (rows : List Row) (f : Refusal) : Type 0 where
 pub record Refuses {A : Type 0} (refused : Refusal → A) (rows : List Row) (said : A) : Type 0 where
   pub when : (f : Refusal) → FirstBroken rows f → said ≡ refused f
   pub only : (f : Refusal) → said ≡ refused f → FirstBroken rows f
+
+-- and then every lent byte is as before: old before the call, new after it
+abbrev pub RefusesAndKeeps : {A : Type 0} → (Refusal → A) → List Row → List ℕ → List ℕ → A → Type 0
+RefusesAndKeeps refused rows old new said = Refuses refused rows said × ((f : Refusal) → said ≡ refused f → new ≡ old)
 
 abbrev pub numbers : List Row → List ℕ
 numbers rows = map (λ r. r .number) rows
