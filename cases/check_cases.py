@@ -5,14 +5,14 @@ Written from document 01 and not from our code: `answer` of dumps.py reads a dum
 named case says by hand the refusal, or the number of events where the dump passes, and the two must
 agree, or nothing is written. The seeded dumps have `answer`'s word alone.
 
-    check_cases.py          writes data/dumps and stdout of the crate check_cases
+    check_cases.py          writes data/cases and stdout of the crate check_cases
     check_cases.py --check  says whether they are as this script makes them
 """
-import struct
 import sys
 
 from dumps import WORDS, Dump, answer, changed, damage, shifted
-from made import Chance, keep
+from form import Cases
+from made import Chance
 
 CASES = []
 
@@ -191,7 +191,7 @@ def seeded(chance):
 for group in (sound, length, identity, mask, name_size, registry, buffer, types, ring, ids, order_of_rows):
     group()
 
-data, lines = bytearray(), []
+cases = Cases()
 for order, word in WORDS.items():
     for name, expected, dump in CASES:
         raw = dump.bytes(order)
@@ -201,16 +201,11 @@ for order, word in WORDS.items():
             said = given if given.split()[0] == word and given.split()[-1] == str(expected) else None
         if said is None:
             sys.exit(f"{name}, {word}: by hand {expected}, by rule {given}")
-        title = f"{name}, {word}".encode()
-        data += bytes([len(title)]) + title + struct.pack("<I", len(raw)) + raw
-        lines.append(f"{name}, {word}: {said}")
+        cases.add(f"{name}, {word}", raw, [("c", (), said)])
 
 chance = Chance(2026)
 for index in range(600):
     raw = seeded(chance).bytes(chance.one("<", ">"))
-    title = f"seeded {index}".encode()
-    data += bytes([len(title)]) + title + struct.pack("<I", len(raw)) + raw
-    lines.append(f"seeded {index}: {answer(raw)}")
+    cases.add(f"seeded {index}", raw, [("c", (), answer(raw))])
 
-keep(__file__, {"data/dumps": bytes(data), "stdout": ("\n".join(lines) + "\n").encode()},
-     f"{len(lines)} cases, {len(data)} bytes")
+cases.keep(__file__)

@@ -10,13 +10,13 @@ values that it was made of.
     reader_cases.py --check  says whether they are as this script makes them
 """
 import json
-import struct
 import sys
 from collections import namedtuple
 
 from dumps import (ALARM, INIT, ISR, PUMP, VALVE, WORDS, Dump, Refused, bad_type, broken, changed, damage, entry, no_id,
                    slot)
-from made import Chance, keep
+from form import Cases, written
+from made import Chance
 from reader import Reading, find_name, listing, one_event, one_line, read_events, read_fields
 from texts import BARE, CONTEXTS, DOCUMENT, line, name, read_back
 
@@ -110,11 +110,6 @@ def numbered(used, slots, current):
     return dump
 
 
-def written(text):
-    """The reply of a call that wrote a text and changed nothing past it."""
-    return f"{len(text)} 0\n{text}"[:-1]
-
-
 # The cases.
 
 def whole_case():
@@ -181,8 +176,10 @@ def contexts():
 
 
 def neighbours():
-    """The lister keeps the name that it found last."""
-    entries = [entry(PUMP, b"pump"), entry(VALVE, b"valve"), entry(INIT, b"init"), entry(0, b"zero"), entry(ISR, b"")]
+    """The lister keeps names that it found, each at a place that its pointer gives: its remainder by 1021."""
+    far = VALVE + 4 * 1021
+    entries = [entry(PUMP, b"pump"), entry(VALVE, b"valve"), entry(INIT, b"init"), entry(0, b"zero"), entry(ISR, b""),
+               entry(far, b"far")]
     rows = {
         "same pointer": ([slot(PUMP)] * 4, ["pump"] * 4),
         "alternating pointers": ([slot(PUMP), slot(VALVE)] * 3, ["pump", "valve"] * 3),
@@ -198,6 +195,10 @@ def neighbours():
                                  ["pump", None, "pump", None, "pump"]),
         "isr of 0 first": ([slot(ISR, 0), slot(ISR, 0), slot(PUMP), slot(ISR, 0)], ["zero", "zero", "pump", "zero"]),
         "isr of isr": ([slot(ISR, ISR), slot(ISR, PUMP), slot(ISR, ISR), slot(PUMP, ISR)], ["", "pump", "", "pump"]),
+        "two names at one place": ([slot(VALVE), slot(far)] * 3, ["valve", "far"] * 3),
+        "a name and none at one place": ([slot(PUMP), slot(PUMP + 4 * 1021)] * 3, ["pump", None] * 3),
+        "three at one place": ([slot(far), slot(far + 1021), slot(ISR, VALVE), slot(far)] * 2,
+                               ["far", None, "valve", "far"] * 2),
         "empty name and none": ([slot(ISR, ISR), slot(ALARM), slot(ISR, ISR), slot(ISR, ALARM)], ["", None, "", None]),
     }
     for title, (slots, names) in rows.items():
@@ -538,37 +539,41 @@ def agrees(case, given):
     return all([event[field] for event in events] == values for field, values in case.by_hand.items())
 
 
-def add(case, order, title, data, lines):
-    """Puts a case into the file, and what it must print into the lines."""
+def given_to(case, room):
+    """What is given to the case's call."""
+    return {"e": (case.position,), "n": (case.pointer,), "l": (case.reading, case.position, room),
+            "a": (case.reading, room)}[case.kind]
+
+
+def add(case, order, title, cases):
+    """Puts a case into the file, with what it must print."""
     raw = case.dump.bytes(order)
     room = room_of(raw, case)
     given = reply(raw, case, room)
     if not agrees(case, given):
         sys.exit(f"{title}: by hand {case.by_hand}, by rule {given}")
-    data += struct.pack("B", len(title)) + title.encode() + case.kind.encode()
-    data += struct.pack("<IIQQIII", *case.reading, case.position, case.pointer, room, len(raw)) + raw
-    lines.append(f"{title}: {given}\n")
+    cases.add(title, raw, [(case.kind, given_to(case, room), given)])
 
 
 GROUPS = (whole_case, rings, contexts, neighbours, registries, names, finding, times, rates, keys, refusals, orders,
           rooms, positions)
-data, lines = bytearray(), []
+cases = Cases()
 for group in GROUPS:
     group()
 for order, word in WORDS.items():
     for case in CASES:
-        add(case, order, f"{case.name}, {word}", data, lines)
+        add(case, order, f"{case.name}, {word}", cases)
 
 # The large dumps in one order only.
 CASES.clear()
 full()
 for case in CASES:
-    add(case, "<", case.name, data, lines)
+    add(case, "<", case.name, cases)
 
 chance = Chance(2027)
 for index in range(300):
     order = chance.one("<", ">")
     case = seeded(index, chance, order)
-    add(case, order, case.name, data, lines)
+    add(case, order, case.name, cases)
 
-keep(__file__, {"data/cases": bytes(data), "stdout": "".join(lines).encode()}, f"{len(lines)} cases, {len(data)} bytes")
+cases.keep(__file__)

@@ -10,13 +10,12 @@ have the two modules' word alone.
     writer_cases.py --check  says whether they are as this script makes them
 """
 import json
-import struct
 import sys
 from collections import namedtuple
-from functools import lru_cache
 
 from dumps import ALARM, INIT, ISR, PUMP, VALVE, WORDS, Dump, Refused, broken, changed, damage, entry, no_id, slot
-from made import Chance, keep
+from form import MOST_IN_HEX, Cases, digest, written
+from made import Chance
 from reader import Reading, listing
 from texts import DOCUMENT
 from writer import Format, Object, format_buffer, record, register, remove
@@ -24,8 +23,8 @@ from writer import Format, Object, format_buffer, record, register, remove
 PLAIN = Reading(rate=1000000, unit=0, serial=0)
 TWO_64 = 1 << 64
 
-# What the program has room for.
-LONGEST_TEXT, MOST_ARGUMENTS, MOST_IN_HEX, MOST_STEPS = 65536, 1024, 1024, 1024
+# The room that a listing gets.
+ROOM = 65536
 
 # A call is a letter and what is given. A step is a call and its reply by hand, or none where the case is seeded.
 Case = namedtuple("Case", "name buffer steps ends")
@@ -57,7 +56,7 @@ def removing(pointer):
 
 
 def listed(reading=PLAIN):
-    return "l", (reading,)
+    return "a", (reading, ROOM)
 
 
 ALL_BYTES = ("b", ())
@@ -506,30 +505,12 @@ def seeded(index, chance):
     return Case(f"seeded {index}", bytes([chance.below(256)]) * length, [(("f", (first,)), None), *steps], None)
 
 
-# What is given to the program, and the replies.
+# The replies.
 
-@lru_cache(maxsize=64)
-def digest(content):
-    """The bytes as digits to the base 511, modulo a prime before each step."""
-    total = 1
-    for b in content:
-        total = total % 36028797018963913 * 511 + b
-    return total
-
-
-# A call's arguments as the program reads them.
-ARGUMENTS = {
-    "f": lambda given: struct.pack("<BIIHQ", given.order == ">", *given[1:]),
-    "w": lambda words: struct.pack("<8I", *words),
-    "o": lambda thing, called: struct.pack("<BIII2s", *thing) + called,
-    "x": lambda pointer: struct.pack("<I", pointer),
-    "l": lambda reading: struct.pack("<IIQ", *reading),
-    "b": lambda: b"",
-}
 WRITING = {"f": format_buffer, "w": record, "o": register, "x": remove}
 
 
-def written(letter, given, buffer):
+def answer_to(letter, given, buffer):
     """The answer of a writing call, which changes the buffer unless it refuses."""
     before = bytes(buffer)
     kind, number, *place = WRITING[letter](buffer, *given)
@@ -539,16 +520,8 @@ def written(letter, given, buffer):
     return f"{number} {place[0]}"
 
 
-def text_of(buffer, reading):
-    """The listing, or the refusal."""
-    try:
-        return listing(bytes(buffer), reading, LONGEST_TEXT)
-    except Refused as refusal:
-        return str(refusal)
-
-
 def agrees(by_hand, given):
-    """Whether a reply is what the step says by hand: the reply itself, or some fields of each event in it."""
+    """Whether an answer is what the step says by hand: the answer itself, or some fields of each event in it."""
     if by_hand is None or isinstance(by_hand, str):
         return by_hand in (None, given)
     events = [json.loads(text) for text in given.splitlines()]
@@ -556,21 +529,17 @@ def agrees(by_hand, given):
 
 
 def reply_to(letter, given, buffer):
-    """A call's reply, and what the program must print."""
+    """A call's answer, and the reply that the program must print."""
     if letter == "b":
-        return buffer.hex(), f"{buffer.hex()}\n"
-    if letter == "l":
-        text = text_of(buffer, *given)
-        return text, f"{len(text)}\n{text}" if text == "" or text.endswith("\n") else f"{text}\n"
-    answer = written(letter, given, buffer)
-    return answer, f"{answer} {digest(bytes(buffer))}\n"
-
-
-def start(buffer):
-    """A buffer as the program reads it: its length, the byte that it ends in, and all before that byte's last run."""
-    last = bytes(buffer[-1:]) or b"\0"
-    given = bytes(buffer).rstrip(last)
-    return struct.pack("<IcI", len(buffer), last, len(given)) + given
+        return buffer.hex(), buffer.hex()
+    if letter != "a":
+        answer = answer_to(letter, given, buffer)
+        return answer, f"{answer} {digest(bytes(buffer))}"
+    try:
+        text = listing(bytes(buffer), *given)
+        return text, written(text)
+    except Refused as refusal:
+        return str(refusal), f"{refusal} 0"
 
 
 def steps_of(made, length, order):
@@ -580,39 +549,33 @@ def steps_of(made, length, order):
     return [*made.steps, (ALL_BYTES, made.ends and made.ends.bytes(order).hex())]
 
 
-def add(made, order, title, data, lines):
-    """Puts a case into the file, and what it must print into the lines."""
-    buffer = bytearray(made.buffer.bytes(order) if isinstance(made.buffer, Dump) else made.buffer)
-    data += struct.pack("B", len(title)) + title.encode() + start(buffer)
-    lines.append(f"{title}: {digest(bytes(buffer))}\n")
-    steps = steps_of(made, len(buffer), order)
-    assert len(steps) < MOST_STEPS
-    for (letter, given), by_hand in steps:
+def add(made, order, title, cases):
+    """Puts a case into the file, with what it must print."""
+    before = made.buffer.bytes(order) if isinstance(made.buffer, Dump) else made.buffer
+    buffer, calls = bytearray(before), []
+    for (letter, given), by_hand in steps_of(made, len(buffer), order):
         if letter == "f" and given[0].order is None:
             given = (given[0]._replace(order=order),)
-        packed = ARGUMENTS[letter](*given)
-        assert len(packed) <= MOST_ARGUMENTS and (letter != "b" or len(buffer) <= MOST_IN_HEX)
-        data += struct.pack("<cH", letter.encode(), len(packed)) + packed
-        reply, printed = reply_to(letter, given, buffer)
-        lines.append(printed)
-        if not agrees(by_hand, reply):
-            sys.exit(f"{title}, {letter}: by hand {by_hand}, by rule {reply}")
-    data += b"."
+        assert letter != "b" or len(buffer) <= MOST_IN_HEX
+        answer, reply = reply_to(letter, given, buffer)
+        if not agrees(by_hand, answer):
+            sys.exit(f"{title}, {letter}: by hand {by_hand}, by rule {answer}")
+        calls.append((letter, given, reply))
+    cases.add(title, before, calls)
 
 
 GROUPS = (whole_case, tops, lengths, masks, name_sizes, rooms, counts, leftovers, turned, writes, rings, stamps, kept,
           types, same_pointer, no_room, removals, zeros, names, reserved_bytes, damaged, unsound, orders)
-data, lines = bytearray(), []
+cases = Cases()
 for group in GROUPS:
     group()
 for order, word in WORDS.items():
     for named in CASES:
-        add(named, order, f"{named.name}, {word}", data, lines)
+        add(named, order, f"{named.name}, {word}", cases)
 
 chance = Chance(2028)
 for index in range(300):
     history = seeded(index, chance)
-    add(history, chance.one(*WORDS), history.name, data, lines)
+    add(history, chance.one(*WORDS), history.name, cases)
 
-keep(__file__, {"data/cases": bytes(data), "stdout": "".join(lines).encode()},
-     f"{2 * len(CASES) + 300} cases, {len(lines)} replies, {len(data)} bytes")
+cases.keep(__file__)

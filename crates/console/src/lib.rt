@@ -1,6 +1,12 @@
-// What the programs share: a refusal, a number or a part of a buffer on standard output, and bytes from a file.
+// What the programs share: a refusal, a number or a part of a buffer on standard output, bytes from a file and numbers in them, and how many bytes changed.
 use libc::STDOUT_FILENO;
 use rows::Refusal;
+use words::Order;
+ghost use mathlib.Core.Path.{_≡_};
+ghost use Prim.Native.Nat.{_+_, _*_, _≤_};
+ghost use lib.ListN.{length};
+ghost use Rattle.words.specs.Words.{wordAt};
+ghost use Rattle.words.specs.declared.Order.the-variants.{Little};
 ghost use Rattle.io.specs.Counts.{Counts};
 
 // A space and a number.
@@ -32,4 +38,41 @@ pub fn read_some(file: i32, bytes: &mut [u8], size: usize) -> usize
         return 0;
     }
     io::read_full(file, &mut bytes[..size])
+}
+
+// The little-endian number of 32 bits at a place.
+pub fn word_at(bytes: &[u8], at: usize) -> u32
+    ensures { λ r. ⌜ r ≡ wordAt Little (now (bytes .entry)) at ⌝ }
+{
+    words::word(bytes, at, Order::Little)
+}
+
+// The number whose low half is at one place and whose high half is at another.
+pub fn number_at(bytes: &[u8], low: usize, high: usize) -> u64
+    ensures { λ r. ⌜ r ≡ wordAt Little (now (bytes .entry)) high * 4294967296 + wordAt Little (now (bytes .entry)) low ⌝ }
+{
+    let top = word_at(bytes, high) as u64;
+    top * 4294967296 + word_at(bytes, low) as u64
+}
+
+fn one_if_changed(b: u8) -> usize
+    ensures { λ r. ⌜ r ≤ 1 ⌝ }
+{
+    if b == b'.' {
+        return 0;
+    }
+    1
+}
+
+// How many bytes from a place on are not a dot.
+pub fn count_changed(bytes: &[u8], from: usize) -> usize
+    ensures { λ r. ⌜ r ≤ length (now (bytes .entry)) ⌝ }
+{
+    let mut changed = 0;
+    let mut i = from;
+    while i < bytes.len() {
+        changed += one_if_changed(bytes[i]);
+        i += 1;
+    }
+    changed
 }

@@ -1,4 +1,5 @@
 pub mod Calls
 pub mod Demands
+pub mod Interface
 pub mod Public
 pub mod Runs

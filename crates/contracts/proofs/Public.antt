@@ -17,7 +17,7 @@ module _ {T : Ended} {value : (κs : Lives T) → Arguments T κs → Result T �
       one-answer = λ κs a p q. (is κs a _ _ (p .allowed) ∙ sym (is κs a _ _ (q .allowed)), alone κs a (p .left) (q .left));
     }
 
-    equation : Settled T (λ κs a. Unit {0}) (λ κs a x e. x ≡ value κs a)
+    pub equation : Settled T (λ κs a. Unit {0}) (λ κs a x e. x ≡ value κs a)
     equation = gives (λ κs a x e p. p)
 
     -- a bound beside it changes nothing
@@ -25,7 +25,7 @@ module _ {T : Ended} {value : (κs : Lives T) → Arguments T κs → Result T �
     bounded = gives (λ κs a x e p. p .0)
 
   -- one buffer is
-  leaves : {learnt : Telling T} {bytes : (κs : Lives T) → AtExit T κs → List ℕ} {last : (κs : Lives T) → Arguments T κs → List ℕ}
+  pub leaves : {learnt : Telling T} {bytes : (κs : Lives T) → AtExit T κs → List ℕ} {last : (κs : Lives T) → Arguments T κs → List ℕ}
       → ((κs : Lives T) (a : Arguments T κs) (x : Result T κs) (e : AtExit T κs) → learnt κs a x e → (x ≡ value κs a) × (bytes κs e ≡ last κs a))
       → ((κs : Lives T) (a : Arguments T κs) (v w : Lasts T κs a) → bytes κs (atExit T κs a v) ≡ bytes κs (atExit T κs a w) → v ≡ w) → Settled T (λ κs a. Unit {0}) learnt
   leaves is alone = record {
@@ -43,8 +43,10 @@ pub library : Library
 library = record {
   words = record {
     byte = equation (λ κs a v w. refl);
+    four = equation (λ κs a v w. refl);
     half = equation (λ κs a v w. refl);
     word = equation (λ κs a v w. refl);
+    «low_byte» = equation (λ κs a v w. refl);
     «put_byte» = leaves {value = λ κs a. tt} (λ κs a x e p. (refl, p)) (λ κs a v w e i. (e i, v .1));
     «put_half» = leaves {value = λ κs a. tt} (λ κs a x e p. (refl, p)) (λ κs a v w e i. (e i, v .1));
     «put_word» = leaves {value = λ κs a. tt} (λ κs a x e p. (refl, p)) (λ κs a v w e i. (e i, v .1));
@@ -59,7 +61,6 @@ library = record {
     either = equation (λ κs a v w. refl);
     both = equation (λ κs a v w. refl);
     above = equation (λ κs a v w. refl);
-    «one_if» = bounded (λ κs a v w. refl);
   };
   header = record {
     «header_of» = equation (λ κs a v w. refl);

@@ -1,5 +1,5 @@
 mod Answers
 mod Fitting
-mod Kept
+mod Keeps
 mod Lengths
 mod Naming

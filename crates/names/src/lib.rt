@@ -100,20 +100,24 @@ fn put_escaped(out: &mut [u8], bytes: &[u8]) -> usize
     at
 }
 
-// The length of a byte's text tells its kind.
 fn put_escape(out: &mut [u8], b: u8) -> usize
     requires { ⌜ length (escape b) ≤ length (now out) ⌝ }
     ensures { λ r. ⌜ Put (escape b) (now (out .entry)) (now (out .exit)) r ⌝ }
 {
-    let length = escape_length(b);
-    if length == 1 {
-        out[0] = b;
-        return 1;
+    if b < 0x20 {
+        return put_hexed(out, b);
     }
-    if length == 2 {
+    if 0x7E < b {
+        return put_hexed(out, b);
+    }
+    if b == b'"' {
         return put_slashed(out, b);
     }
-    put_hexed(out, b)
+    if b == b'\\' {
+        return put_slashed(out, b);
+    }
+    out[0] = b;
+    1
 }
 
 fn put_slashed(out: &mut [u8], b: u8) -> usize

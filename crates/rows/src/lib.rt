@@ -1,7 +1,7 @@
 // A refusal by number and place, rows checked in order, and tests with both sides worked out, so that a row is code with no branch.
 ghost use mathlib.Core.Path.{_≡_};
-ghost use mathlib.Core.Bool.{_&&_, _||_, cond};
-ghost use Prim.Native.Nat.{_-_, _≤_};
+ghost use mathlib.Core.Bool.{_&&_, _||_};
+ghost use Prim.Native.Nat.{_-_};
 ghost use Rattle.rows.specs.Rows.{rowAt, afterRow};
 
 pub struct Refusal {
@@ -49,11 +49,4 @@ pub fn above(a: usize, b: usize) -> usize
     ensures { λ r. ⌜ r ≡ a - b ⌝ }
 {
     if b <= a { a - b } else { 0 }
-}
-
-// One where the test holds.
-pub fn one_if(a: bool) -> usize
-    ensures { λ r. ⌜ (r ≡ cond a 1 0) × (r ≤ 1) ⌝ }
-{
-    if a { 1 } else { 0 }
 }

@@ -3,8 +3,11 @@
 // A line's case is an l, the line's fields in their order, and the name's length and bytes; it gives the line, and then
 // six numbers that say what it does with too little room, with just enough and with plenty.
 // Numbers in the file are little-endian.
+use console::count_changed;
+use console::number_at;
 use console::print_front;
 use console::print_space;
+use console::word_at;
 use libc::STDOUT_FILENO;
 use text::Context;
 use text::Info;
@@ -19,26 +22,6 @@ fn print_number(x: u64) {
     print_space(numbers::number_length(x) as u64);
     print_space(doubles::through_double(x));
     io::write_all(STDOUT_FILENO, b"\n");
-}
-
-fn one_if_changed(b: u8) -> usize
-    ensures { λ r. ⌜ r ≤ 1 ⌝ }
-{
-    if b == b'.' {
-        return 0;
-    }
-    1
-}
-
-// How many bytes from a place on are not a dot.
-fn count_changed(out: &[u8], from: usize) -> usize {
-    let mut changed = 0;
-    let mut i = from;
-    while i < out.len() {
-        changed += one_if_changed(out[i]);
-        i += 1;
-    }
-    changed
 }
 
 fn one_less(n: usize) -> usize {
@@ -76,16 +59,6 @@ fn print_line(line: Line, named: bool, bytes: &[u8]) {
     print_close(line, named, bytes);
     print_space(count_changed(&out, n) as u64);
     io::write_all(STDOUT_FILENO, b"\n");
-}
-
-fn word_at(case: &[u8], at: usize) -> u32 {
-    words::word(case, at, Order::Little)
-}
-
-// The number whose low half is at one place and whose high half is at another.
-fn number_at(case: &[u8], low: usize, high: usize) -> u64 {
-    let top = word_at(case, high) as u64;
-    top * 4294967296 + word_at(case, low) as u64
 }
 
 fn context_of(number: u8) -> Context {

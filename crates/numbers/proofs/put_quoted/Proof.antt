@@ -13,17 +13,17 @@ slice-aggregate-put-bytes c = search needs
 put-bytes-requires : tie.Need-put-bytes-requires
 put-bytes-requires c κs = search needs
 
-sub-put-digits : tie.Need-sub-put-digits
-sub-put-digits c = omega (arith, at-most _ (c .before .before .put-bytes .ensures))
+sub-put-high : tie.Need-sub-put-high
+sub-put-high c = omega (arith, at-most _ (c .before .before .put-bytes .ensures))
 
-part-put-digits-start : tie.Need-part-put-digits-start
-part-put-digits-start c = omega (arith, at-most _ (c .before .before .put-bytes .ensures))
+part-put-high-start : tie.Need-part-put-high-start
+part-put-high-start c = omega (arith, at-most _ (c .before .before .put-bytes .ensures))
 
-part-put-digits-end : tie.Need-part-put-digits-end
-part-put-digits-end c = search needs
+part-put-high-end : tie.Need-part-put-high-end
+part-put-high-end c = search needs
 
-put-digits-requires : tie.Need-put-digits-requires
-put-digits-requires c κs = omega (arith, at-most _ (c .before .before .before .put-bytes .ensures))
+put-high-requires : tie.Need-put-high-requires
+put-high-requires c κs = omega (arith, at-most _ (c .before .before .before .put-bytes .ensures))
 
 add-at : tie.Need-add-at
 add-at c = omega (arith, at-most _ (c .before .before .before .before .before .before .put-bytes .ensures))
@@ -53,7 +53,7 @@ returns : tie.Need-returns
 unfolding quoted
 returns c =
     let first = is-put (ascii "\"") (c .before .before .before .before .before .before .before .before .before .before .before .before .before .before .before .args .out .now) (omega arith) (c .before .before .before .before .before .before .before .before .before .before .before .put-bytes .ensures) in
-    on-to _ (ascii "\"") (on-from _ _ first (c .before .before .before .before .before .before .before .put-digits .ensures)) (c .before .before .put-bytes2 .ensures) (omega (arith, first .count))
+    on-to _ (ascii "\"") (on-from _ _ first (c .before .before .before .before .before .before .before .put-high .ensures)) (c .before .before .put-bytes2 .ensures) (omega (arith, first .count))
 
 pub put-quoted-spec : {M : Type 1} → statement M
 put-quoted-spec =
@@ -61,10 +61,10 @@ put-quoted-spec =
     (tie.spec
     slice-aggregate-put-bytes
     put-bytes-requires
-    sub-put-digits
-    part-put-digits-start
-    part-put-digits-end
-    put-digits-requires
+    sub-put-high
+    part-put-high-start
+    part-put-high-end
+    put-high-requires
     add-at
     sub-put-bytes
     part-put-bytes-start

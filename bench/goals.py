@@ -1,0 +1,23 @@
+"""What we aim at: a competitor's time divided by ours is at least so much."""
+
+TEXT_JOBS = ["listing-full", "listing-names", "numbers"]
+TEXT_GOALS = {
+    "itoa": 1,
+    "itoa-map": 1,
+    "serde": 2,
+    "node-template": 5,
+    "node-stringify": 5,
+    "python-format": 100,
+    "python-json": 100,
+}
+# Numbers alone have no names, and node and Python print them in one way.
+LISTING_ONLY = {"itoa-map", "node-stringify", "python-json"}
+
+GOALS = [
+    (job, competitor, goal)
+    for job in TEXT_JOBS
+    for competitor, goal in TEXT_GOALS.items()
+    if job != "numbers" or competitor not in LISTING_ONLY
+]
+# The check takes at most twice the time of reading the bytes once, in either way of reading them.
+GOALS += [("check", "sum", 0.5), ("check", "copy", 0.5)]

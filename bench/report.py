@@ -1,0 +1,127 @@
+"""report.py RESULTS DOCUMENT writes the tables of the results between the document's marks; all other text stays."""
+import pathlib
+import re
+import statistics
+import sys
+
+from goals import GOALS
+from titles import COMPETITORS, JOBS
+
+OURS = "lepsaino"
+
+
+def read(path):
+    """By job and competitor: the best of the bests and the median of the medians."""
+    found = {}
+    for line in path.read_text().splitlines():
+        job, competitor, best, median = line.split()
+        found.setdefault(job, {}).setdefault(competitor, []).append((float(best), float(median)))
+    return {job: {name: merged(times) for name, times in row.items()} for job, row in found.items()}
+
+
+def merged(times):
+    bests, medians = zip(*times)
+    return min(bests), statistics.median(medians)
+
+
+def table(heads, rows):
+    """The first two columns hold words, the others numbers."""
+    ruler = ["---" if index < 2 else "---:" for index in range(len(heads))]
+    return "\n".join(f"| {' | '.join(map(str, row))} |" for row in [heads, ruler, *rows])
+
+
+def number_table(heads, rows):
+    lines = [heads, ["---:"] * len(heads), *rows]
+    return "\n".join(f"| {' | '.join(map(str, row))} |" for row in lines)
+
+
+def time_text(nanoseconds):
+    return f"{nanoseconds:,.1f} ns" if nanoseconds < 1000 else f"{nanoseconds / 1000:,.1f} µs"
+
+
+def ratio_text(ratio):
+    return f"{ratio:.2f}" if ratio < 10 else f"{ratio:.0f}"
+
+
+def goals(times):
+    rows = []
+    for job, competitor, goal in GOALS:
+        (ours, ours_median), (best, median) = times[job][OURS], times[job][competitor]
+        verdict = "met" if best >= goal * ours else "**MISSED**"
+        rows.append([JOBS[job], COMPETITORS[competitor], ratio_text(best / ours), ratio_text(median / ours_median), goal, verdict])
+    return table(["job", "competitor", "ratio by best times", "by medians", "goal", "verdict"], rows)
+
+
+def all_times(times):
+    rows = []
+    for job, row in times.items():
+        ours, ours_median = row[OURS]
+        for name, (best, median) in row.items():
+            ratios = ratio_text(best / ours), ratio_text(median / ours_median)
+            rows.append([JOBS[job], COMPETITORS[name], time_text(best), time_text(median), *ratios])
+    return table(["job", "competitor", "best", "median", "ratio by best times", "by medians"], rows)
+
+
+def instructions(path):
+    if not path.exists():
+        return "Not counted in this run: there was no valgrind."
+    rows = []
+    for line in path.read_text().splitlines():
+        job, competitor, count = line.split()
+        rows.append([JOBS[job], COMPETITORS[competitor], count])
+    return table(["job", "competitor", "instructions for each event"], rows)
+
+
+def event_growth(growth):
+    rows = []
+    for job, row in growth.items():
+        if job.startswith("events-"):
+            count = int(job.rpartition("-")[2])
+            each = row[OURS][0]
+            rows.append([f"{count:,}", time_text(each * count), f"{each:.1f}", f"{row['itoa'][0]:.1f}"])
+    return number_table(["events", "the library, the whole listing", "the library, ns for each event", "Rust with itoa"], rows)
+
+
+def entry_growth(growth):
+    rows = []
+    for job, one in growth.items():
+        if job.startswith("entries-one-"):
+            count = job.rpartition("-")[2]
+            every = growth[f"entries-all-{count}"]
+            times = one[OURS], one["itoa"], every[OURS], every["itoa"], every["itoa-map"]
+            rows.append([f"{int(count):,}", *(f"{best:.1f}" for best, _ in times)])
+    heads = ["entries", "one thread: the library", "Rust with itoa", "all threads: the library", "Rust with itoa", "the same with a map"]
+    return number_table(heads, rows)
+
+
+def machine(path):
+    return "\n".join(f"- {line}" for line in path.read_text().splitlines())
+
+
+def put(text, name, part):
+    """What stands between the two marks of that name is replaced."""
+    marks = re.compile(rf"(<!-- {name}: written by bench/run -->\n).*?(<!-- end of {name} -->)", re.DOTALL)
+    text, count = marks.subn(lambda found: f"{found[1]}{part}\n{found[2]}", text)
+    if count != 1:
+        sys.exit(f"report: the marks of {name} are missing")
+    return text
+
+
+def main():
+    results, document = map(pathlib.Path, sys.argv[1:])
+    times, growth = read(results / "times"), read(results / "growth")
+    parts = {
+        "machine": machine(results / "machine"),
+        "goals": goals(times),
+        "instructions": instructions(results / "instructions"),
+        "events": event_growth(growth),
+        "entries": entry_growth(growth),
+        "times": all_times(times),
+    }
+    text = document.read_text()
+    for name, part in parts.items():
+        text = put(text, name, part)
+    document.write_text(text)
+
+
+main()

@@ -1,0 +1,54 @@
+//! The baselines in Rust do all that document 01 asks: they give what the peer gives, refusals too.
+
+use crate::plain::record::record;
+use crate::plain::Refusal;
+use crate::with_itoa;
+use peer::call::Call;
+use peer::generate::Generator;
+
+const CASES: usize = 20_000;
+
+fn refusal(refusal: peer::Refusal) -> Refusal {
+    (refusal.number, refusal.place)
+}
+
+fn compare_listing(dump: &[u8], reading: &peer::Reading) {
+    let mut room = vec![0; 1_600_000];
+    let length = peer::listing(dump, reading, &mut room).map_err(refusal);
+    let expected = length.map(|length| room[..length].to_vec());
+    let lepsaino = lepsaino::Reading {
+        rate: reading.rate,
+        unit: reading.unit,
+        serial: reading.serial,
+    };
+    for list in [with_itoa::listing, with_itoa::listing_by_map] {
+        let mut out = Vec::new();
+        let given = list(dump, lepsaino, &mut out).map(|()| out);
+        assert!(given == expected, "another listing");
+    }
+}
+
+fn compare_record(buffer: &mut [u8], words: &[u32; 8]) {
+    let mut other = buffer.to_vec();
+    let expected = peer::record(buffer, words).map_err(refusal);
+    assert_eq!(record(&mut other, words), expected);
+    assert!(other == buffer, "another buffer");
+}
+
+#[test]
+fn baselines_agree_with_the_peer() {
+    let mut generator = Generator::new(1);
+    for _ in 0..CASES {
+        let case = generator.next_case();
+        let mut buffer = case.buffer();
+        for call in &case.calls {
+            match call {
+                Call::Line { reading, .. } | Call::Listing { reading, .. } => {
+                    compare_listing(&buffer, reading)
+                }
+                Call::Record(words) => compare_record(&mut buffer, words),
+                _ => drop(peer::answers::answer(&mut buffer, call)),
+            }
+        }
+    }
+}

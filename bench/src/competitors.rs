@@ -1,0 +1,132 @@
+//! Who competes in each job, each behind a function of the same form.
+
+use crate::contest::opaque;
+use crate::plain::{check, record};
+use crate::{with_itoa, with_serde};
+use lepsaino::{Reading, Slot};
+
+/// Room for any listing.
+const ROOM: usize = 1_600_000;
+
+/// Writes a text to the front of the output, which it may use again, and gives its length.
+pub type Lister = fn(&[u8], Reading, &mut Vec<u8>) -> usize;
+pub type Printer = fn(&[u64], &mut Vec<u8>) -> usize;
+/// Records so many events and gives the index of the last slot filled.
+pub type Recorder = fn(&mut [u8], u32) -> usize;
+/// Reads the dump, or copies it into the other bytes.
+pub type Reader = fn(&[u8], &mut [u8]) -> u64;
+
+pub const LISTERS: [(&str, Lister); 5] = [
+    ("lepsaino", |dump, reading, out| {
+        lend(out);
+        lepsaino::listing(dump, reading, out).unwrap()
+    }),
+    ("itoa", |dump, reading, out| {
+        with_itoa::listing(dump, reading, out).unwrap();
+        out.len()
+    }),
+    ("itoa-map", |dump, reading, out| {
+        with_itoa::listing_by_map(dump, reading, out).unwrap();
+        out.len()
+    }),
+    ("serde", |dump, reading, out| {
+        with_serde::listing(dump, reading, out).unwrap();
+        out.len()
+    }),
+    ("peer", |dump, reading, out| {
+        lend(out);
+        let reading = peer::Reading::new(reading.rate, reading.unit, reading.serial);
+        peer::listing(dump, &reading, out).unwrap()
+    }),
+];
+
+pub const PRINTERS: [(&str, Printer); 3] = [
+    ("lepsaino", |numbers, out| {
+        lend(out);
+        print(numbers, out)
+    }),
+    ("itoa", |numbers, out| {
+        with_itoa::numbers(numbers, out);
+        out.len()
+    }),
+    ("serde", |numbers, out| {
+        with_serde::numbers(numbers, out);
+        out.len()
+    }),
+];
+
+pub const READERS: [(&str, Reader); 5] = [
+    ("lepsaino", |dump, _| {
+        lepsaino::check(dump).unwrap().events as u64
+    }),
+    ("plain", |dump, _| check::check(dump).unwrap() as u64),
+    ("peer", |dump, _| peer::check(dump).unwrap().events as u64),
+    ("sum", |dump, _| sum(dump)),
+    ("copy", |dump, copy| {
+        copy.copy_from_slice(dump);
+        u64::from(copy[0])
+    }),
+];
+
+pub const RECORDERS: [(&str, Recorder); 3] = [
+    ("lepsaino", |buffer, events| {
+        repeat(events, |words| {
+            lepsaino::record(buffer, slot(words)).unwrap()
+        })
+    }),
+    ("plain", |buffer, events| {
+        repeat(events, |words| record::record(buffer, &words).unwrap())
+    }),
+    ("peer", |buffer, events| {
+        repeat(events, |words| peer::record(buffer, &words).unwrap())
+    }),
+];
+
+/// The library writes into bytes that are lent, which must be there.
+fn lend(out: &mut Vec<u8>) {
+    if out.len() < ROOM {
+        out.resize(ROOM, 0);
+    }
+}
+
+/// Each number on a line of its own.
+fn print(numbers: &[u64], out: &mut [u8]) -> usize {
+    let mut at = 0;
+    for &number in numbers {
+        at += lepsaino::number(&mut out[at..], number).unwrap();
+        out[at] = b'\n';
+        at += 1;
+    }
+    at
+}
+
+fn sum(bytes: &[u8]) -> u64 {
+    let mut sum = 0u64;
+    for &byte in bytes {
+        sum = sum.wrapping_add(byte.into());
+    }
+    sum
+}
+
+fn repeat(events: u32, mut record: impl FnMut([u32; 8]) -> usize) -> usize {
+    let mut last = 0;
+    for stamp in 0..events {
+        // A device's words are not known when its program is compiled.
+        last = record(opaque([0x2000_1000, 16, 5, stamp, 1, 2, 3, 4]));
+    }
+    last
+}
+
+fn slot(words: [u32; 8]) -> Slot {
+    let [pointer, field, id, stamp, first, second, third, fourth] = words;
+    Slot {
+        pointer,
+        field,
+        id,
+        stamp,
+        first,
+        second,
+        third,
+        fourth,
+    }
+}

@@ -1,0 +1,61 @@
+//! `bench files FOLDER` writes the dumps and the library's answers. `bench times ROUNDS` and `bench growth ROUNDS` print lines
+//! of a job, a competitor and its best and median nanoseconds. `bench repeat JOB COMPETITOR TIMES` lists a dump so many times.
+
+#[cfg(test)]
+mod agreement;
+mod competitors;
+mod contest;
+mod dumps;
+mod files;
+mod growth;
+mod jobs;
+mod numbers;
+mod plain;
+mod stream;
+mod with_itoa;
+mod with_serde;
+
+use std::path::Path;
+use std::process::ExitCode;
+
+fn main() -> ExitCode {
+    let words: Vec<String> = std::env::args().skip(1).collect();
+    let words: Vec<&str> = words.iter().map(String::as_str).collect();
+    match run(&words) {
+        Some(()) => ExitCode::SUCCESS,
+        None => {
+            eprintln!("usage: bench files FOLDER | times ROUNDS | growth ROUNDS | repeat JOB COMPETITOR TIMES");
+            ExitCode::from(2)
+        }
+    }
+}
+
+/// None for words that are not understood.
+fn run(words: &[&str]) -> Option<()> {
+    match words {
+        ["files", folder] => files::write(Path::new(folder)).expect("a folder that can be written"),
+        ["times", rounds] => jobs::run(rounds.parse().ok()?),
+        ["growth", rounds] => growth::run(rounds.parse().ok()?),
+        ["repeat", job, competitor, times] => repeat(job, competitor, times.parse().ok()?)?,
+        _ => return None,
+    }
+    Some(())
+}
+
+/// To count instructions: the difference between two numbers of times is the listing's own.
+fn repeat(job: &str, competitor: &str, times: u32) -> Option<()> {
+    let dump = match job {
+        "listing-full" => dumps::full(),
+        "listing-names" => dumps::with_names(),
+        _ => return None,
+    };
+    let entry = competitors::LISTERS
+        .iter()
+        .find(|(name, _)| *name == competitor)?;
+    let mut competitor = jobs::lister(*entry, &dump);
+    for _ in 0..times {
+        contest::opaque((competitor.call)());
+    }
+    println!("{}", dump.events);
+    Some(())
+}

@@ -1,0 +1,77 @@
+"""The form in which the programs of cases are given calls on buffers, and in which they print the replies.
+
+A case is a title, a buffer and calls, made in turn on that buffer. The program prints the title and the
+buffer's digest, then the reply to each call.
+"""
+import struct
+from functools import lru_cache
+
+from made import keep
+
+# What the programs have room for.
+MOST_BYTES, MOST_ARGUMENTS, MOST_IN_HEX, MOST_CALLS, MOST_ROOM = 65537, 1024, 1024, 1000, 1599000
+
+# A call's arguments as the programs read them, by the call's letter.
+ARGUMENTS = {
+    "c": lambda: b"",
+    "e": lambda position: struct.pack("<Q", position),
+    "n": lambda pointer: struct.pack("<I", pointer),
+    "l": lambda reading, position, room: struct.pack("<IIQQI", *reading, position, room),
+    "a": lambda reading, room: struct.pack("<IIQI", *reading, room),
+    "f": lambda given: struct.pack("<BIIHQ", given.order == ">", *given[1:]),
+    "w": lambda words: struct.pack("<8I", *words),
+    "o": lambda thing, called: struct.pack("<BIII2s", *thing) + called,
+    "x": lambda pointer: struct.pack("<I", pointer),
+    "b": lambda: b"",
+}
+
+
+@lru_cache(maxsize=64)
+def digest(content):
+    """The bytes as digits to the base 511, modulo a prime before each step."""
+    total = 1
+    for b in content:
+        total = total % 36028797018963913 * 511 + b
+    return total
+
+
+def written(text):
+    """The reply to a call that wrote a text and changed nothing past it, but for the last line's end."""
+    return f"{len(text)} 0\n{text}"[:-1]
+
+
+def start(buffer):
+    """A buffer by its length, the byte that it ends in, and all before that byte's last run."""
+    last = buffer[-1:] or b"\0"
+    given = buffer.rstrip(last)
+    return struct.pack("<IcI", len(buffer), last, len(given)) + given
+
+
+def packed(letter, given):
+    arguments = ARGUMENTS[letter](*given)
+    assert len(arguments) <= MOST_ARGUMENTS and (letter not in "la" or given[-1] <= MOST_ROOM)
+    return struct.pack("<cH", letter.encode(), len(arguments)) + arguments
+
+
+class Cases:
+    """A file of cases, and what must be printed for it."""
+
+    def __init__(self):
+        self.data, self.printed, self.count = bytearray(), [], 0
+
+    def add(self, title, buffer, calls):
+        """Puts in a case. A call is its letter, what is given, and the reply without its last line's end."""
+        assert len(title) < 200 and len(buffer) <= MOST_BYTES and len(calls) <= MOST_CALLS
+        self.count += 1
+        self.data += struct.pack("B", len(title)) + title.encode() + start(buffer)
+        self.printed.append(f"{title}: {digest(buffer)}\n")
+        for letter, given, reply in calls:
+            self.data += packed(letter, given)
+            self.printed.append(f"{reply}\n")
+        self.data += b"."
+
+    def keep(self, script):
+        """Keeps the files of the crate that has the script's name."""
+        replies = len(self.printed) - self.count
+        keep(script, {"data/cases": bytes(self.data), "stdout": "".join(self.printed).encode()},
+             f"{self.count} cases, {replies} calls, {len(self.data)} bytes")

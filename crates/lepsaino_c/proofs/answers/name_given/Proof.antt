@@ -1,0 +1,23 @@
+-- `lepsaino_c::answers::name_given` meets its contract: case by case.
+use mathlib.Core.Path.{ap, sym}
+use Rattle.lepsaino_c.specs.Answers.{nameGiven}
+use borrow.Author.Needs.{needs}
+use Rattle.lepsaino_c.proofs.answers.name_given.Statement.{statement}
+use Rattle.lepsaino_c.proofs.answers.name_given.Tie as tie
+
+enum-told : tie.Need-enum-told
+enum-told c = search needs
+
+enum-known-name : tie.Need-enum-known-name
+enum-known-name c = search needs
+
+returns : tie.Need-returns
+unfolding nameGiven
+returns c = rw (c .enum-told .given .1)
+
+returns-2 : tie.Need-returns-2
+unfolding nameGiven
+returns-2 c = sym (ap nameGiven (c .before .name .given .1))
+
+pub name-given-spec : {M : Type 1} → statement M
+name-given-spec = tie.close (tie.spec enum-told enum-known-name returns returns-2)

@@ -1,0 +1,22 @@
+-- `lepsaino_c::answers::order_number` meets its contract: case by case.
+use Rattle.lepsaino_c.specs.Answers.{orderNumber}
+use borrow.Author.Needs.{needs}
+use Rattle.lepsaino_c.proofs.answers.order_number.Statement.{statement}
+use Rattle.lepsaino_c.proofs.answers.order_number.Tie as tie
+
+enum-told : tie.Need-enum-told
+enum-told c = search needs
+
+enum-told-2 : tie.Need-enum-told-2
+enum-told-2 c = search needs
+
+returns : tie.Need-returns
+unfolding orderNumber
+returns c = rw (c .enum-told .given .1)
+
+returns-2 : tie.Need-returns-2
+unfolding orderNumber
+returns-2 c = rw (c .enum-told2 .given .1)
+
+pub order-number-spec : {M : Type 1} → statement M
+order-number-spec = tie.close (tie.spec enum-told enum-told-2 returns returns-2)

@@ -1,0 +1,186 @@
+/*
+ * The calls of the library for C, proved to meet the promises in docs/PROMISES.md for any bytes and any arguments.
+ * The archive is for Linux on x86-64 or aarch64.
+ *
+ * A length goes with each pointer. What a caller owes, and no proof can see:
+ * - A pointer may be read for its length, and written for its length where it is not const. It may be null where the length is 0.
+ * - A length is at most PTRDIFF_MAX, as that of every object in C is.
+ * - Bytes lent to be written overlap no other bytes lent to the same call, and nothing else reads or writes them before it returns.
+ * - Nothing writes bytes lent to be read before the call returns.
+ * - The stack has room: 24 KB for lepsaino_listing, 2 KB for any other call.
+ *
+ * A refusal is the number and the place of document 01's table, which stands at the end of this file; 0 as its number means that the call was
+ * accepted. After a refusal every field but these two is 0, and no lent byte has changed. No call keeps a pointer, allocates, or reads or writes
+ * anything but what it is lent, so calls may run on several threads at once as long as the above holds. Neither a name nor a text ends with a zero
+ * byte: its length is given beside it.
+ */
+#ifndef LEPSAINO_H
+#define LEPSAINO_H
+
+#include <stddef.h>
+#include <stdint.h>
+
+#if SIZE_MAX < UINT64_MAX
+#error "lepsaino.h is for processors whose size_t has 64 bits"
+#endif
+
+#ifdef __cplusplus
+extern "C" {
+#endif
+
+/* What a line, a listing or a call that writes gives. */
+struct lepsaino_answer {
+    uint32_t refusal;
+    size_t place;
+    size_t value;
+};
+
+/* What checking a dump gives: the byte order (1 for big-endian, 0 for little), the header's fields as they are stored, and the number of events. */
+struct lepsaino_checked {
+    uint32_t refusal;
+    size_t place;
+    uint32_t big;
+    uint32_t id;
+    uint32_t mask;
+    uint32_t base;
+    uint32_t registry_start;
+    uint16_t name_size;
+    uint32_t registry_end;
+    uint32_t buffer_start;
+    uint32_t buffer_end;
+    uint32_t current;
+    size_t events;
+};
+
+/* The eight words of a slot, as in the buffer. */
+struct lepsaino_slot {
+    uint32_t pointer;
+    uint32_t field;
+    uint32_t id;
+    uint32_t stamp;
+    uint32_t first;
+    uint32_t second;
+    uint32_t third;
+    uint32_t fourth;
+};
+
+enum lepsaino_context {
+    LEPSAINO_INIT = 1,
+    LEPSAINO_ISR = 2,
+    LEPSAINO_THREAD = 3
+};
+
+/*
+ * One event. named is 1 where there is a name, which is the dump's bytes from name_at on, name_length of them: they lie within the dump. Where named is 0
+ * so are both. context is one of enum lepsaino_context.
+ */
+struct lepsaino_event {
+    uint32_t refusal;
+    size_t place;
+    struct lepsaino_slot slot;
+    uint64_t ticks;
+    uint32_t context;
+    uint32_t named;
+    size_t name_at;
+    size_t name_length;
+};
+
+/* What finding a name gives: named is 1 where there is one, which is the dump's bytes from at on, length of them. Where named is 0 so are both. */
+struct lepsaino_name {
+    uint32_t refusal;
+    size_t place;
+    uint32_t named;
+    size_t at;
+    size_t length;
+};
+
+/* What a listing goes by: the clock rate in Hz, the unit number and the first serial. */
+struct lepsaino_reading {
+    uint32_t rate;
+    uint32_t unit;
+    uint64_t serial;
+};
+
+/* What formatting is given: the byte order (0 for little-endian, any other number for big), the base address, the mask, the name size, the number of entries. */
+struct lepsaino_format {
+    uint32_t big;
+    uint32_t base;
+    uint32_t mask;
+    uint16_t name_size;
+    size_t entries;
+};
+
+/* What registering is given, but for the name. The reserved bytes count for a thread (type 1) alone. */
+struct lepsaino_object {
+    uint8_t object_type;
+    uint32_t pointer;
+    uint32_t parameter_one;
+    uint32_t parameter_two;
+    uint8_t reserved_one;
+    uint8_t reserved_two;
+};
+
+/* Checks a dump: 1 to 13. */
+struct lepsaino_checked lepsaino_check(const uint8_t *dump, size_t dump_length);
+
+/* One event by its position, from 0, oldest first: checks 1 to 13, then 25. */
+struct lepsaino_event lepsaino_event(const uint8_t *dump, size_t dump_length, size_t position);
+
+/* The name of the thread with the pointer given: checks 1 to 11. */
+struct lepsaino_name lepsaino_find_name(const uint8_t *dump, size_t dump_length, uint32_t pointer);
+
+/* The line of one event, with its line feed, at the front of out: checks 1 to 15, then 25, 16. The value is its length; out past it keeps its bytes. */
+struct lepsaino_answer lepsaino_line(const uint8_t *dump, size_t dump_length, struct lepsaino_reading reading, size_t position, uint8_t *out, size_t out_length);
+
+/* A line for each event, oldest first, at the front of out: checks 1 to 16. The value is their length; out past it keeps its bytes. */
+struct lepsaino_answer lepsaino_listing(const uint8_t *dump, size_t dump_length, struct lepsaino_reading reading, uint8_t *out, size_t out_length);
+
+/* The text of a number as in a line, at the front of out, and its length: bare digits up to and including 2^53, in quotes above. 0, and nothing written, where there is no room. */
+size_t lepsaino_number(uint8_t *out, size_t out_length, uint64_t number);
+
+/* Formats a buffer: checks 2, 4, 5, 24. The value is the number of slots; bytes left over stay. */
+struct lepsaino_answer lepsaino_format(uint8_t *buffer, size_t buffer_length, struct lepsaino_format format);
+
+/* Records an event in the slot at current, its stamp cut by the mask, and moves current on by one slot: checks 1 to 10, 17, 18. The value is the index of the slot filled. */
+struct lepsaino_answer lepsaino_record(uint8_t *buffer, size_t buffer_length, struct lepsaino_slot slot);
+
+/* Registers an object in the lowest free entry, its name cut to the name size: checks 1 to 10, 19, 23, 20, 21. The value is the entry's index. */
+struct lepsaino_answer lepsaino_register(uint8_t *buffer, size_t buffer_length, struct lepsaino_object object, const uint8_t *name, size_t name_length);
+
+/* Frees the lowest entry in use that has the pointer given: checks 1 to 10, 22. The value is the entry's index. */
+struct lepsaino_answer lepsaino_remove(uint8_t *buffer, size_t buffer_length, uint32_t pointer);
+
+#ifdef __cplusplus
+}
+#endif
+
+/*
+ * Refusals, by number. The place is 0 but for 11 (the lowest such entry), 12 and 13 (the lowest such slot) and 20 (that entry).
+ *  1  fewer than 48 bytes
+ *  2  more than 65,536 bytes
+ *  3  the id is neither pattern
+ *  4  the mask is not w ones at the bottom, w from 1 to 32
+ *  5  the name size is not a multiple of 4 from 4 to 64
+ *  6  the registry does not start at offset 48
+ *  7  the registry ends before 48, past the dump, or not after a whole number of entries
+ *  8  the slots do not start where the registry ends
+ *  9  the slots do not end past their start, end past the dump, or are not whole
+ * 10  current lies before the first slot, past the last, or not on a slot
+ * 11  an entry in use has a type that is not allowed
+ * 12  a slot breaks the used/unused rule
+ * 13  a used slot has the event id 0
+ * 14  the clock rate is 0
+ * 15  the unit number is 2^24 or more, or the first serial plus the event count is above 2^40
+ * 16  the text is longer than the output
+ * 17  an event with the thread pointer 0
+ * 18  an event with the id 0
+ * 19  the object's type is not allowed
+ * 20  an entry in use has that pointer already
+ * 21  no entry is free
+ * 22  no entry in use has that pointer
+ * 23  the name contains a zero byte
+ * 24  no room for a header, the registry and one slot
+ * 25  there is no event at that position
+ */
+
+#endif

@@ -1,0 +1,365 @@
+// Tests of the page's reader: what it accepts, what it refuses, what a careless page would see, and the corpus.
+import assert from "node:assert/strict";
+import { readFileSync } from "node:fs";
+import test from "node:test";
+import { RefusedLine, readLine, readListing } from "./lepsaino.mjs";
+
+const CORPUS_ANSWERS = new URL("../crates/corpus/stdout", import.meta.url);
+const PEER_KEYS = new URL("../peer/keys", import.meta.url);
+const FEWEST_CORPUS_KEYS = 1000;
+const FEWEST_CORPUS_LISTINGS = 100;
+
+const DOCUMENT_LINES = [
+  '{"key":9007199254740992,"ticks":0,"us":0,"id":5,"ptr":536875008,"by":"thread","name":"pump","field":16,"info":[1,2,3,4]}',
+  '{"key":"9007199254740993","ticks":56,"us":18,"id":1025,"ptr":4294967295,"by":"isr","name":"pump","field":536875008,"info":[0,0,0,0]}',
+  '{"key":"9007199254740994","ticks":56,"us":18,"id":6,"ptr":536879104,"by":"thread","name":null,"field":16,"info":[7,0,0,0]}',
+];
+
+/** A line in which each member is the text given, or a sound one. */
+function line(members = {}) {
+  const sound = { key: "7", ticks: "0", us: "0", id: "5", ptr: "536875008", by: '"thread"', name: '"pump"', field: "16", info: "[1,2,3,4]" };
+  const texts = Object.entries({ ...sound, ...members }).map(([member, text]) => `"${member}":${text}`);
+  return `{${texts.join(",")}}`;
+}
+
+const listing = (...lines) => lines.map((each) => `${each}\n`).join("");
+const listingOfKeys = (...keys) => listing(...keys.map((key) => line({ key })));
+const unquotedKeys = (text) => text.replace(/"key":"([0-9]+)"/g, '"key":$1');
+
+/** An event as document 01 prints it: an accepted text must be this one, so nothing else is accepted and nothing is lost. */
+function printed(event) {
+  const number = (value) => (value <= 2n ** 53n ? `${value}` : `"${value}"`);
+  const escape = (character) => (/["\\]/.test(character) ? `\\${character}` : `\\u00${character.charCodeAt(0).toString(16).padStart(2, "0")}`);
+  const name = event.name === null ? "null" : `"${event.name.replace(/["\\]|[^ -~]/g, escape)}"`;
+  return line({
+    key: number(event.key), ticks: number(event.ticks), us: number(event.us), id: number(event.id), ptr: number(event.ptr),
+    by: `"${event.by}"`, name, field: number(event.field), info: `[${event.info.map(number).join(",")}]`,
+  });
+}
+
+/** Where no column is given, any will do. */
+function isRefusal(error, lineNumber, reason, column = error.column) {
+  assert.ok(error instanceof RefusedLine, String(error));
+  assert.equal(error.line, lineNumber);
+  assert.match(error.reason, reason);
+  assert.equal(error.column, column);
+  assert.equal(error.message, `line ${error.line}, column ${error.column}: ${error.reason}`);
+  return true;
+}
+
+function refuses(text, reason, column) {
+  assert.throws(() => readLine(text), (error) => isRefusal(error, 1, reason, column), text);
+}
+
+function refusesListing(text, lineNumber, reason, column) {
+  assert.throws(() => readListing(text), (error) => isRefusal(error, lineNumber, reason, column));
+}
+
+/** The column, from 1, at which a part of a line begins. */
+const columnOf = (text, part) => text.indexOf(part) + 1;
+
+test("the three lines of document 01", () => {
+  const events = readListing(listing(...DOCUMENT_LINES));
+  assert.deepEqual(events.map((event) => event.key), [9007199254740992n, 9007199254740993n, 9007199254740994n]);
+  assert.deepEqual(events[1], {
+    key: 9007199254740993n, keyText: "9007199254740993", ticks: 56n, us: 18n, id: 1025, ptr: 4294967295,
+    by: "isr", name: "pump", field: 536875008, info: [0, 0, 0, 0],
+  });
+  assert.equal(events[0].keyText, "9007199254740992");
+  assert.equal(events[2].name, null);
+  assert.deepEqual(events[0].info, [1, 2, 3, 4]);
+  assert.deepEqual(DOCUMENT_LINES.map(readLine), events);
+});
+
+test("an event cannot be changed", () => {
+  const event = readLine(DOCUMENT_LINES[0]);
+  assert.throws(() => { event.key = 1n; }, TypeError);
+  assert.throws(() => { event.info[0] = 9; }, TypeError);
+});
+
+test("keys on both sides of each limit", () => {
+  const read = (key) => readLine(line({ key })).key;
+  assert.equal(read("0"), 0n);
+  assert.equal(read("9007199254740991"), 2n ** 53n - 1n);
+  assert.equal(read("9007199254740992"), 2n ** 53n);
+  assert.equal(read('"9007199254740993"'), 2n ** 53n + 1n);
+  assert.equal(read('"18446744073709551615"'), 2n ** 64n - 1n);
+  const not = (key, reason) => refuses(line({ key }), reason, columnOf(line(), "7,"));
+  not('"9007199254740991"', /in quotes though not above/);
+  not('"9007199254740992"', /in quotes though not above/);
+  not("9007199254740993", /bare and above/);
+  not("18446744073709551615", /bare and above/);
+  not('"18446744073709551616"', /does not fit 64 bits/);
+  not(`"${"9".repeat(100000)}"`, /does not fit 64 bits/);
+});
+
+test("ticks on both sides of their limit", () => {
+  const read = (ticks) => readLine(line({ ticks })).ticks;
+  for (const ticks of ["0", "1", "4294967295", "4294967296", "8783208118274", "8783208118275"]) assert.equal(read(ticks), BigInt(ticks));
+  const not = (ticks, reason) => refuses(line({ ticks }), reason, columnOf(line(), '0,"us"'));
+  not("8783208118276", /8783208118276 is above 8783208118275, the most that can stand here/);
+  not("9007199254740992", /is above 8783208118275/);
+  not('"9007199254740993"', /is above 8783208118275/);
+  not('"18446744073709551615"', /is above 8783208118275/);
+  not('"8783208118275"', /in quotes though not above/);
+  not("9007199254740993", /bare and above/);
+  not('"18446744073709551616"', /does not fit 64 bits/);
+});
+
+test("microseconds on both sides of each limit", () => {
+  const read = (ticks, us) => readLine(line({ ticks, us })).us;
+  assert.equal(read("1", "0"), 0n);
+  assert.equal(read("56", "56000000"), 56000000n);
+  assert.equal(read("9007199255", "9007199254740992"), 2n ** 53n);
+  assert.equal(read("9007199255", '"9007199254740993"'), 2n ** 53n + 1n);
+  assert.equal(read("8783208118275", '"8783208118275000000"'), 8783208118275000000n);
+  const not = (ticks, us, reason) => refuses(line({ ticks, us }), reason, columnOf(line({ ticks, us }), '"us":') + 5);
+  not("0", "1", /the number 1 is above 0, the most that can stand here/);
+  not("0", "5", /is above 0/);
+  not("56", "56000001", /is above 56000000/);
+  not("8783208118275", '"8783208118275000001"', /is above 8783208118275000000/);
+  not("8783208118275", '"18446744073709551615"', /is above 8783208118275000000/);
+  not("8783208118275", "8783208118275000000", /bare and above/);
+  not("9007199255", '"9007199254740992"', /in quotes though not above/);
+  not("9007199255", "9007199254740993", /bare and above/);
+});
+
+test("32-bit numbers on both sides of each limit", () => {
+  for (const member of ["id", "ptr", "field"]) {
+    const read = (text) => readLine(line({ [member]: text, by: member === "ptr" && text === "4294967295" ? '"isr"' : '"thread"' }))[member];
+    assert.equal(read("1"), 1);
+    assert.equal(read("4294967295"), 4294967295);
+    refuses(line({ [member]: "4294967296" }), /is above 4294967295, the most that can stand here/);
+    refuses(line({ [member]: '"9007199254740993"' }), /is above 4294967295, the most that can stand here/);
+    refuses(line({ [member]: '"5"' }), /in quotes though not above/);
+  }
+  assert.equal(readLine(line({ field: "0" })).field, 0);
+  refuses(line({ id: "0" }), /never 0/);
+  refuses(line({ ptr: "0" }), /never 0/);
+  assert.deepEqual(readLine(line({ info: "[0,4294967295,1,2]" })).info, [0, 4294967295, 1, 2]);
+  refuses(line({ info: "[0,0,0,4294967296]" }), /is above 4294967295, the most that can stand here/);
+});
+
+test("every other form of a number is refused, in every member", () => {
+  const notPlain = ["1e3", "1E3", "1.0", "-1", "-0", "+1", "0x10", "1_000", "12n", " 1", "1 ", "NaN", "null", "true", "\u0661"];
+  for (const member of ["key", "ticks", "us", "id", "ptr", "field"]) {
+    for (const text of notPlain) refuses(line({ [member]: text }), /not plain digits/);
+    for (const text of notPlain) refuses(line({ [member]: `"${text}"` }), /not plain digits/);
+    for (const text of ["007", "00", "09007199254740993", '"09007199254740993"']) refuses(line({ [member]: text }), /leading zeros/);
+    refuses(line({ [member]: "" }), /expected a number/);
+    refuses(line({ [member]: '""' }), /no digits/);
+    refuses(line({ [member]: "[1]" }), /not plain digits/);
+    refuses(line({ [member]: '"9007199254740993' }), /not plain digits/);
+  }
+  for (const text of notPlain) refuses(line({ info: `[1,2,${text},4]` }), /not plain digits/);
+  for (const cut of ['{"key":"', '{"key":"9007199254740993']) refuses(cut, /cut off/);
+});
+
+test("names byte by byte", () => {
+  for (let byte = 0; byte < 256; byte += 1) {
+    const character = String.fromCharCode(byte);
+    const escape = `\\u00${byte.toString(16).padStart(2, "0")}`;
+    const plain = byte >= 0x20 && byte <= 0x7e;
+    if (plain) refuses(line({ name: `"${escape}"` }), /not printed so/);
+    else if (byte === 0) refuses(line({ name: `"${escape}"` }), /zero byte/);
+    else assert.equal(readLine(line({ name: `"${escape}"` })).name, character);
+    if (!plain) refuses(line({ name: `"${character}"` }), /must be escaped/);
+    else if (character !== '"' && character !== "\\") assert.equal(readLine(line({ name: `"${character}"` })).name, character);
+  }
+  assert.equal(readLine(line({ name: '"A\\"\\u000a"' })).name, 'A"\n');
+  assert.equal(readLine(line({ name: '"\\\\"' })).name, "\\");
+  assert.equal(readLine(line({ name: '""' })).name, "");
+});
+
+test("every other form of a name is refused", () => {
+  for (const text of ["\\n", "\\/", "\\b", "\\t", "\\u000A", "\\u0100", "\\ud800", "\\u00", "\\U000a", "\\x0a"]) {
+    refuses(line({ name: `"${text}"` }), /escape other than/);
+  }
+  for (const text of ["\u0100", "\u20ac", "\ud83d\ude00", "\ud800"]) refuses(line({ name: `"${text}"` }), /must be escaped/);
+  for (const text of ["Null", "pump", "0", "'pump'", ""]) refuses(line({ name: text }), /expected "/);
+  refuses(line().slice(0, line().indexOf('mp",')), /the name is cut off/);
+  assert.equal(readLine(line({ name: `"${"\\\\".repeat(64)}"` })).name.length, 64);
+  refuses(line({ name: `"${"p".repeat(65)}"` }), /longer than 64/);
+});
+
+test("the context is that of the pointer, and init has no name", () => {
+  assert.equal(readLine(line({ ptr: "4042322160", by: '"init"', name: "null" })).by, "init");
+  assert.equal(readLine(line({ ptr: "4294967295", by: '"isr"' })).by, "isr");
+  refuses(line({ ptr: "4042322160", by: '"init"' }), /init event has no name/);
+  refuses(line({ ptr: "4042322160" }), /expected ,"by":"init"/);
+  for (const by of ['"isr"', '"init"', '"Thread"', "null", "thread"]) refuses(line({ by }), /expected ,"by":"thread"/);
+});
+
+test("missing, repeated, reordered and extra members are refused", () => {
+  const members = line().slice(1, -1).match(/"[a-z]+":(?:\[[^\]]*\]|[^,]*)/g);
+  assert.equal(`{${members.join(",")}}`, line());
+  for (let index = 0; index < members.length; index += 1) {
+    const without = members.filter((_, other) => other !== index);
+    const put = (at, member) => `{${[...without.slice(0, at), member, ...without.slice(at)].join(",")}}`;
+    refuses(`{${without.join(",")}}`, /expected/);
+    for (let at = 0; at < members.length; at += 1) {
+      if (at !== index) refuses(put(at, members[index]), /expected/);
+      refuses(put(at, `${members[index]},"more":1`), /expected/);
+      refuses(put(at, `${members[index]},${members[index]}`), /expected/);
+    }
+  }
+  for (const info of ["[]", "[1,2,3]", "[1,2,3,4,5]", "{}", "[1,2,3,4,]", "[1,2,3,[4]]"]) refuses(line({ info }), /expected|plain digits/);
+});
+
+test("text before, after or between, another text, a cut line and no text at all are refused", () => {
+  for (const rest of [" ", "\r", "\n", ",", "}", line()]) refuses(line() + rest, /text follows/);
+  for (const before of [" ", "\ufeff", "[", "\n"]) refuses(before + line(), /expected/);
+  for (const other of ["", "{}", "[]", "4 0", "null", "7"]) refuses(other, /expected/);
+  for (const mark of [",", ":", "{", "}", "[", "]"]) {
+    refuses(line().replace(mark, ` ${mark}`), /expected|plain digits/);
+    refuses(line().replace(mark, `${mark} `), /expected|plain digits|text follows/);
+  }
+  for (let length = 0; length < line().length; length += 1) refuses(line().slice(0, length), /expected|cut off|plain digits/);
+  for (const other of [undefined, null, 7, {}, new String(line())]) refuses(other, /not a text/);
+});
+
+test("a line with one character changed, added or taken away is refused or says what it prints", () => {
+  const characters = '0159"\\,:{}[]-+.eEu nflaA\u0000\n\u007f\u00e9\u0660\uff11';
+  const lines = [...DOCUMENT_LINES, line({ name: '"A\\"\\u000a\\\\"', ticks: "9007199255", us: '"9007199255000000"' }), line({ ptr: "4042322160", by: '"init"', name: "null" })];
+  let accepted = 0;
+  const isRefusedOrSame = (text) => {
+    try {
+      assert.equal(printed(readLine(text)), text);
+      accepted += 1;
+    } catch (error) {
+      if (!(error instanceof RefusedLine)) throw error;
+    }
+  };
+  for (const each of lines) {
+    isRefusedOrSame(each);
+    for (let at = 0; at < each.length; at += 1) {
+      isRefusedOrSame(each.slice(0, at) + each.slice(at + 1));
+      for (const character of characters) {
+        isRefusedOrSame(each.slice(0, at) + character + each.slice(at + 1));
+        isRefusedOrSame(each.slice(0, at) + character + each.slice(at));
+      }
+    }
+  }
+  assert.ok(accepted > lines.length, "some changed digits make other sound lines");
+});
+
+test("a listing is whole lines whose keys go up by one", () => {
+  assert.deepEqual(readListing(""), []);
+  assert.equal(readListing(listingOfKeys("9007199254740990", "9007199254740991")).length, 2);
+  assert.equal(readListing(listingOfKeys("9007199254740992", '"9007199254740993"')).length, 2);
+  refusesListing(line(), 1, /cut off/);
+  refusesListing(listingOfKeys("7") + line({ key: "8" }), 2, /cut off/);
+  refusesListing(listingOfKeys("7") + "{", 2, /cut off/);
+  for (const text of ["\n", "\r\n", "4 0\n"]) refusesListing(text, 1, /expected/);
+  refusesListing(`${listingOfKeys("7")}\n`, 2, /expected/);
+  refusesListing(listingOfKeys("7").replace("\n", "\r\n"), 1, /text follows/);
+  refusesListing(listingOfKeys("7", "8", "1e3"), 3, /not plain digits/);
+  refusesListing(listingOfKeys("7", "8", "8"), 3, /8 is that of line 2 already/);
+  refusesListing(listingOfKeys("7", "8", "7"), 3, /7 is that of line 1 already/);
+  refusesListing(listingOfKeys("7", "9"), 2, /go up by one/);
+  refusesListing(listingOfKeys("7", "6"), 2, /go up by one/);
+  refusesListing(listingOfKeys("1099511627775", "1099511627776"), 2, /next unit/);
+  refusesListing(listingOfKeys("9007199254740991", "9007199254740992"), 2, /next unit/);
+  for (const given of [undefined, null, 7, [line()]]) refusesListing(given, 1, /not a text/);
+});
+
+test("a listing's ticks begin at 0 and go on by less than the widest timer's range", () => {
+  const ofTicks = (...all) => listing(...all.map((ticks, index) => line({ key: `${7 + index}`, ticks: `${ticks}` })));
+  assert.equal(readListing(ofTicks(0, 0, 4294967295, 8589934590)).length, 4);
+  refusesListing(ofTicks(1), 1, /the oldest event has 1 ticks/, 1);
+  refusesListing(ofTicks(9, 9), 1, /the oldest event has 9 ticks/, 1);
+  refusesListing(ofTicks(0, 5, 4), 3, /go back from 5 to 4/, 1);
+  refusesListing(ofTicks(0, 5, 0), 3, /go back from 5 to 0/, 1);
+  refusesListing(ofTicks(0, 4294967296), 2, /leap from 0 to 4294967296/, 1);
+  refusesListing(ofTicks(0, 1, 4294967297), 3, /leap from 1 to 4294967297/, 1);
+});
+
+test("a listing has at most 2,046 lines", () => {
+  const farthest = (count) => Array.from({ length: count }, (_, index) => line({ key: `${index}`, ticks: `${Math.min(index, 2045) * 4294967295}` }));
+  const events = readListing(listing(...farthest(2046)));
+  assert.equal(events.length, 2046);
+  assert.equal(events[2045].ticks, 8783208118275n);
+  refusesListing(listing(...farthest(2047)), 2047, /at most 2046 lines/, 1);
+});
+
+test("a refusal tells where the line stops being one of document 01", () => {
+  const place = (text, part, reason) => refuses(text, reason, columnOf(text, part));
+  refuses("", /expected/, 1);
+  refuses(` ${line()}`, /expected/, 1);
+  refuses(`${line()} `, /text follows/, line().length + 1);
+  refuses('{"key":"', /cut off/, 8);
+  place(line({ id: "0" }), '0,"ptr"', /never 0/);
+  place(line({ ptr: "4294967296" }), "4294967296", /is above/);
+  place(line({ info: "[1,2,03,4]" }), "03", /leading zeros/);
+  place(line({ by: '"isr"' }), ',"by"', /expected/);
+  place(line({ name: '"pu\\n"' }), "\\n", /escape other than/);
+  place(line({ name: `"${"p".repeat(65)}"` }), 'p","field"', /longer than 64/);
+  refusesListing(listingOfKeys("7", "8").slice(0, -1), 2, /cut off/, line().length + 1);
+  refusesListing(listingOfKeys("7", "9"), 2, /go up by one/, 1);
+  refusesListing(listing(line(), line({ key: "8", ticks: "1.0" })), 2, /not plain digits/, columnOf(line(), '0,"us"'));
+});
+
+test("a careless page sees one key for two events, and this reader does not", () => {
+  const highest = [0n, 1n, 2n].map((serial) => `"${16777215n * 2n ** 40n + serial}"`);
+  for (const printed of [listing(...DOCUMENT_LINES), listingOfKeys(...highest)]) {
+    const careless = unquotedKeys(printed);
+    const carelessKeys = careless.trimEnd().split("\n").map((each) => JSON.parse(each).key);
+    assert.equal(carelessKeys.length, 3);
+    assert.ok(new Set(carelessKeys).size < 3, "two of three neighbouring keys became one float");
+    refusesListing(careless, printed === listing(...DOCUMENT_LINES) ? 2 : 1, /bare and above/);
+    assert.equal(new Set(readListing(printed).map((event) => event.key)).size, 3);
+    assert.equal(new Set(readListing(printed).map((event) => event.keyText)).size, 3);
+  }
+});
+
+const isEventLine = (each) => each.startsWith('{"key":');
+const corpusLines = () => readFileSync(CORPUS_ANSWERS, "latin1").split("\n");
+const peerKeys = () => readFileSync(PEER_KEYS, "latin1").trimEnd().split("\n").map((each) => each.split(" "));
+
+/** The events' lines of each answer with the line before them, which tells the answer's length and parts it from the one before. */
+function corpusAnswers() {
+  const answers = [];
+  let before = "";
+  for (const each of corpusLines()) {
+    if (isEventLine(each) && !isEventLine(before)) answers.push({ before, lines: [] });
+    if (isEventLine(each)) answers.at(-1).lines.push(each);
+    before = each;
+  }
+  return answers;
+}
+
+test("every line of the corpus is read, under the peer's key", () => {
+  const lines = corpusLines().filter(isEventLine);
+  const peer = peerKeys();
+  assert.equal(lines.length, peer.length);
+  const ofListings = new Map();
+  lines.forEach((each, index) => {
+    const [kind, keyText] = peer[index];
+    const event = readLine(each);
+    assert.match(kind, /^[al]$/);
+    assert.equal(event.keyText, keyText, `line ${index + 1} of the corpus`);
+    assert.equal(event.key, BigInt(keyText));
+    assert.equal(printed(event), each);
+    if (kind !== "a") return;
+    assert.ok(!ofListings.has(event.key), `the key ${keyText} comes twice`);
+    ofListings.set(event.key, each.startsWith('{"key":"') ? "quoted" : "bare");
+  });
+  assert.ok(ofListings.size >= FEWEST_CORPUS_KEYS, `only ${ofListings.size} keys of whole listings`);
+  assert.deepEqual([...new Set(ofListings.values())].sort(), ["bare", "quoted"]);
+});
+
+test("every whole listing of the corpus is read as one and prints back", () => {
+  const kinds = peerKeys().map(([kind]) => kind);
+  let count = 0;
+  for (const { before, lines } of corpusAnswers()) {
+    const text = listing(...lines);
+    assert.equal(before, `${text.length} 0`);
+    const [kind, ...others] = kinds.splice(0, lines.length);
+    assert.ok(others.every((other) => other === "a" && kind === "a"), "only a whole listing has several lines");
+    if (kind !== "a") continue;
+    count += 1;
+    assert.equal(listing(...readListing(text).map(printed)), text);
+  }
+  assert.deepEqual(kinds, []);
+  assert.ok(count >= FEWEST_CORPUS_LISTINGS, `only ${count} whole listings`);
+});

@@ -1,0 +1,115 @@
+//! What the peer answers, as the structs for C; after a refusal every field but its two is 0.
+
+use crate::arguments::slot;
+use crate::plain::Given;
+use lepsaino::raw::{self, Answer, Checked, Event, Name};
+use peer::answers::{EventAnswer, FoundName, Reply};
+use peer::{ByteOrder, Context, Refusal, Summary};
+
+/// None for the one kind of call that the library does not have.
+pub fn given(reply: &Reply) -> Option<Given> {
+    Some(match reply {
+        Reply::Check(result) => Given::Checked(result.as_ref().map_or_else(unchecked, checked)),
+        Reply::Event(result) => Given::Event(result.as_ref().map_or_else(no_event, event)),
+        Reply::FindName(result) => Given::Name(
+            result
+                .as_ref()
+                .map_or_else(no_name, |found| name(found.as_ref())),
+        ),
+        Reply::Text { result, .. } => Given::Answer(
+            result
+                .as_ref()
+                .map_or_else(refused, |text| value(text.len())),
+        ),
+        Reply::Written { result, .. } => {
+            Given::Answer(result.as_ref().map_or_else(refused, |done| value(*done)))
+        }
+        Reply::Bytes(_) => return None,
+    })
+}
+
+fn value(value: usize) -> Answer {
+    Answer {
+        value,
+        ..Answer::default()
+    }
+}
+
+fn refused(refusal: &Refusal) -> Answer {
+    Answer {
+        refusal: refusal.number,
+        place: refusal.place,
+        ..Answer::default()
+    }
+}
+
+fn unchecked(refusal: &Refusal) -> Checked {
+    Checked {
+        refusal: refusal.number,
+        place: refusal.place,
+        ..Checked::default()
+    }
+}
+
+fn no_event(refusal: &Refusal) -> Event {
+    Event {
+        refusal: refusal.number,
+        place: refusal.place,
+        ..Event::default()
+    }
+}
+
+fn no_name(refusal: &Refusal) -> Name {
+    Name {
+        refusal: refusal.number,
+        place: refusal.place,
+        ..Name::default()
+    }
+}
+
+fn checked(summary: &Summary) -> Checked {
+    let header = &summary.header;
+    Checked {
+        refusal: 0,
+        place: 0,
+        big: u32::from(header.order == ByteOrder::Big),
+        id: header.id,
+        mask: header.mask,
+        base: header.base,
+        registry_start: header.registry_start,
+        name_size: header.name_size,
+        registry_end: header.registry_end,
+        buffer_start: header.buffer_start,
+        buffer_end: header.buffer_end,
+        current: header.current,
+        events: summary.events,
+    }
+}
+
+fn name(found: Option<&FoundName>) -> Name {
+    Name {
+        refusal: 0,
+        place: 0,
+        named: u32::from(found.is_some()),
+        at: found.map_or(0, |name| name.at),
+        length: found.map_or(0, |name| name.bytes.len()),
+    }
+}
+
+fn event(answer: &EventAnswer) -> Event {
+    let name = name(answer.name.as_ref());
+    Event {
+        refusal: 0,
+        place: 0,
+        slot: slot(&answer.words),
+        ticks: answer.ticks,
+        context: match answer.context {
+            Context::Init => raw::INIT,
+            Context::Isr => raw::ISR,
+            Context::Thread => raw::THREAD,
+        },
+        named: name.named,
+        name_at: name.at,
+        name_length: name.length,
+    }
+}

@@ -1,0 +1,116 @@
+//! A call made through the safe wrapper, its answer as the peer gives its own.
+
+use crate::arguments;
+use crate::loan::Loan;
+use peer::answers::{EventAnswer, FoundName, Reply};
+use peer::call::Call;
+use peer::digest::digest;
+use peer::generate::chance::Chance;
+use peer::{ByteOrder, Context, Header, Refusal, Summary};
+
+/// The length of a text, or what a writing call gives.
+type Written = Result<usize, lepsaino::Refusal>;
+
+/// None for the one kind of call that the library does not have.
+pub fn answer(chance: &mut Chance, loan: &mut Loan, call: &Call) -> Option<Reply> {
+    let buffer = loan.buffer.bytes_mut();
+    Some(match call {
+        Call::Check => Reply::Check(lepsaino::check(buffer).map(summary).map_err(refusal)),
+        Call::Event { position } => {
+            let given = lepsaino::event(buffer, *position).map_err(refusal);
+            Reply::Event(given.map(|given| event(buffer, &given)))
+        }
+        Call::FindName { pointer } => {
+            let given = lepsaino::find_name(buffer, *pointer).map_err(refusal);
+            Reply::FindName(given.map(|given| given.map(|name| found(buffer, name))))
+        }
+        Call::Line {
+            reading, position, ..
+        } => {
+            let reading = arguments::reading(reading);
+            let length = lepsaino::line(buffer, reading, *position, loan.out.bytes_mut());
+            text(loan, length)
+        }
+        Call::Listing { reading, .. } => {
+            let reading = arguments::reading(reading);
+            let length = lepsaino::listing(buffer, reading, loan.out.bytes_mut());
+            text(loan, length)
+        }
+        _ => {
+            let done = write(chance, loan, call)?;
+            Reply::Written {
+                result: done.map_err(refusal),
+                digest: digest(loan.buffer.bytes()),
+            }
+        }
+    })
+}
+
+fn write(chance: &mut Chance, loan: &mut Loan, call: &Call) -> Option<Written> {
+    let buffer = loan.buffer.bytes_mut();
+    Some(match call {
+        Call::Format(plan) => lepsaino::format(buffer, arguments::format(chance, plan)),
+        Call::Record(words) => lepsaino::record(buffer, arguments::slot(words)),
+        Call::Register(registration) => {
+            lepsaino::register(buffer, arguments::object(registration), loan.name.bytes())
+        }
+        Call::Remove { pointer } => lepsaino::remove(buffer, *pointer),
+        _ => return None,
+    })
+}
+
+fn refusal(refusal: lepsaino::Refusal) -> Refusal {
+    Refusal::at(refusal.number, refusal.place)
+}
+
+fn text(loan: &Loan, length: Written) -> Reply {
+    let (text, past) = loan.out.bytes().split_at(length.unwrap_or(0));
+    Reply::Text {
+        result: length.map(|_| text.to_vec()).map_err(refusal),
+        changed: past.iter().filter(|&&byte| byte != loan.fill).count(),
+    }
+}
+
+fn summary(checked: lepsaino::Checked) -> Summary {
+    let order = if checked.big {
+        ByteOrder::Big
+    } else {
+        ByteOrder::Little
+    };
+    Summary {
+        header: Header {
+            order,
+            id: checked.id,
+            mask: checked.mask,
+            base: checked.base,
+            registry_start: checked.registry_start,
+            name_size: checked.name_size,
+            registry_end: checked.registry_end,
+            buffer_start: checked.buffer_start,
+            buffer_end: checked.buffer_end,
+            current: checked.current,
+        },
+        events: checked.events,
+    }
+}
+
+fn event(dump: &[u8], event: &lepsaino::Event) -> EventAnswer {
+    EventAnswer {
+        words: arguments::words(&event.slot),
+        ticks: event.ticks,
+        context: match event.context {
+            lepsaino::Context::Init => Context::Init,
+            lepsaino::Context::Isr => Context::Isr,
+            lepsaino::Context::Thread => Context::Thread,
+        },
+        name: event.name.map(|name| found(dump, name)),
+    }
+}
+
+/// The name is a part of the dump, so the two addresses tell where.
+fn found(dump: &[u8], name: &[u8]) -> FoundName {
+    FoundName {
+        bytes: name.to_vec(),
+        at: name.as_ptr() as usize - dump.as_ptr() as usize,
+    }
+}

@@ -1,0 +1,134 @@
+//! Makes one call on a buffer and holds everything it answers.
+
+use crate::call::Call;
+use crate::check::{check, Summary};
+use crate::digest::digest;
+use crate::event::{event, Context, Event};
+use crate::find_name::find_name;
+use crate::format::format;
+use crate::line::line;
+use crate::listing::listing;
+use crate::record::record;
+use crate::refusal::Refusal;
+use crate::register::register;
+use crate::remove::remove;
+
+/// A name's bytes and its offset in the dump.
+#[derive(Clone, Debug, PartialEq, Eq)]
+pub struct FoundName {
+    pub bytes: Vec<u8>,
+    pub at: usize,
+}
+
+#[derive(Clone, Debug, PartialEq, Eq)]
+pub struct EventAnswer {
+    pub words: [u32; 8],
+    pub ticks: u64,
+    pub context: Context,
+    pub name: Option<FoundName>,
+}
+
+#[derive(Clone, Debug, PartialEq, Eq)]
+pub enum Reply {
+    Check(Result<Summary, Refusal>),
+    Event(Result<EventAnswer, Refusal>),
+    FindName(Result<Option<FoundName>, Refusal>),
+    /// A line or a listing; changed counts the output bytes past the text that are not as before.
+    Text {
+        result: Result<Vec<u8>, Refusal>,
+        changed: usize,
+    },
+    /// Format, record, register or remove, with the digest of the whole buffer afterwards.
+    Written {
+        result: Result<usize, Refusal>,
+        digest: u64,
+    },
+    Bytes(Vec<u8>),
+}
+
+impl Reply {
+    pub fn refusal(&self) -> Option<Refusal> {
+        match self {
+            Reply::Check(result) => result.as_ref().err().copied(),
+            Reply::Event(result) => result.as_ref().err().copied(),
+            Reply::FindName(result) => result.as_ref().err().copied(),
+            Reply::Text { result, .. } => result.as_ref().err().copied(),
+            Reply::Written { result, .. } => result.as_ref().err().copied(),
+            Reply::Bytes(_) => None,
+        }
+    }
+}
+
+const UNTOUCHED: u8 = b'.';
+const NOT_LENT: usize = 64;
+
+pub fn answer(buffer: &mut [u8], call: &Call) -> Reply {
+    match call {
+        Call::Check => Reply::Check(check(buffer)),
+        Call::Event { position } => {
+            let found = event(buffer, *position);
+            Reply::Event(found.map(|event| event_answer(buffer, &event)))
+        }
+        Call::FindName { pointer } => {
+            let found = find_name(buffer, *pointer);
+            Reply::FindName(found.map(|name| name.map(|name| found_name(buffer, name))))
+        }
+        Call::Line {
+            reading,
+            position,
+            room,
+        } => with_output(*room, |output| line(buffer, reading, *position, output)),
+        Call::Listing { reading, room } => {
+            with_output(*room, |output| listing(buffer, reading, output))
+        }
+        Call::Format(plan) => written(format(buffer, plan), buffer),
+        Call::Record(words) => written(record(buffer, words), buffer),
+        Call::Register(registration) => written(register(buffer, &registration.object()), buffer),
+        Call::Remove { pointer } => written(remove(buffer, *pointer), buffer),
+        Call::Bytes => Reply::Bytes(buffer.to_vec()),
+    }
+}
+
+fn written(result: Result<usize, Refusal>, buffer: &[u8]) -> Reply {
+    let digest = digest(buffer);
+    Reply::Written { result, digest }
+}
+
+fn with_output(room: u32, call: impl FnOnce(&mut [u8]) -> Result<usize, Refusal>) -> Reply {
+    let room = room as usize;
+    let mut output = vec![UNTOUCHED; room + NOT_LENT];
+    let result = call(&mut output[..room]);
+    let length = result.unwrap_or(0);
+    let past = output.split_off(length);
+    let changed = past.iter().filter(|&&byte| byte != UNTOUCHED).count();
+    let result = result.map(|_| output);
+    Reply::Text { result, changed }
+}
+
+fn event_answer(dump: &[u8], event: &Event) -> EventAnswer {
+    let [one, two, three, four] = event.information;
+    let words = [
+        event.pointer,
+        event.field,
+        event.id,
+        event.stamp,
+        one,
+        two,
+        three,
+        four,
+    ];
+    EventAnswer {
+        words,
+        ticks: event.ticks,
+        context: event.context,
+        name: event.name.map(|name| found_name(dump, name)),
+    }
+}
+
+/// The name is a part of the dump, so the two addresses tell where.
+fn found_name(dump: &[u8], name: &[u8]) -> FoundName {
+    FoundName {
+        bytes: name.to_vec(),
+        at: name.as_ptr() as usize - dump.as_ptr() as usize,
+    }
+}

@@ -1,0 +1,133 @@
+//! Writes the file of cases, the answers to it and the keys in them, from a fixed seed.
+
+use peer::answers::{answer, Reply};
+use peer::call::Call;
+use peer::case::Case;
+use peer::generate::{document, Generator};
+use peer::print::{print_reply, print_title};
+use peer::Reading;
+use std::collections::HashSet;
+use std::path::Path;
+
+const SEED: u64 = 9_007_199_254_740_992;
+const GENERATED: usize = 4_000;
+const LETTERS: &[u8; 10] = b"cenlafwoxb";
+
+#[derive(Default)]
+struct Corpus {
+    cases: Vec<u8>,
+    printed: Vec<u8>,
+    keys: String,
+    listed: HashSet<u64>,
+    repeated: usize,
+    count: usize,
+    calls: [usize; 10],
+    refusals: [usize; 26],
+    with_place: [usize; 26],
+}
+
+impl Corpus {
+    fn add(&mut self, case: &Case) {
+        case.encode(&mut self.cases);
+        let mut buffer = case.buffer();
+        print_title(&case.title, &buffer, &mut self.printed);
+        for call in &case.calls {
+            let reply = answer(&mut buffer, call);
+            print_reply(&reply, &mut self.printed);
+            self.add_keys(call, &reply);
+            self.tally(call, &reply);
+        }
+        self.count += 1;
+    }
+
+    fn add_keys(&mut self, call: &Call, reply: &Reply) {
+        let text = match reply {
+            Reply::Text {
+                result: Ok(text), ..
+            } => text,
+            _ => return,
+        };
+        match call {
+            Call::Line {
+                reading, position, ..
+            } => self.add_key('l', reading, *position),
+            Call::Listing { reading, .. } => {
+                let lines = text.iter().filter(|&&byte| byte == b'\n').count();
+                for position in 0..lines {
+                    self.add_key('a', reading, position);
+                    self.repeated += usize::from(!self.listed.insert(reading.key(position)));
+                }
+            }
+            _ => {}
+        }
+    }
+
+    fn add_key(&mut self, letter: char, reading: &Reading, position: usize) {
+        let key = reading.key(position);
+        self.keys.push_str(&format!("{} {}\n", letter, key));
+    }
+
+    fn tally(&mut self, call: &Call, reply: &Reply) {
+        let letter = LETTERS.iter().position(|&letter| letter == call.letter());
+        self.calls[letter.expect("the letter is one of these")] += 1;
+        if let Some(refusal) = reply.refusal() {
+            self.refusals[refusal.number as usize] += 1;
+            self.with_place[refusal.number as usize] += usize::from(refusal.place > 0);
+        }
+    }
+
+    fn table(&self) {
+        println!("cases {}", self.count);
+        for (letter, count) in LETTERS.iter().zip(self.calls) {
+            println!("calls {} {}", *letter as char, count);
+        }
+        for number in 1..=25 {
+            let count = self.refusals[number];
+            println!(
+                "refusal {} {}, place above 0: {}",
+                number, count, self.with_place[number]
+            );
+        }
+        println!(
+            "keys of whole listings {}, repeated {}",
+            self.listed.len(),
+            self.repeated
+        );
+        println!(
+            "bytes of cases {}, of answers {}",
+            self.cases.len(),
+            self.printed.len()
+        );
+    }
+
+    fn write(&self, folder: &Path) -> std::io::Result<()> {
+        std::fs::create_dir_all(folder)?;
+        std::fs::write(folder.join("cases"), &self.cases)?;
+        std::fs::write(folder.join("stdout"), &self.printed)?;
+        std::fs::write(folder.join("keys"), &self.keys)
+    }
+}
+
+fn main() -> std::io::Result<()> {
+    let folder = match std::env::args_os().nth(1) {
+        Some(folder) => folder,
+        None => {
+            eprintln!("corpus DIR");
+            std::process::exit(2);
+        }
+    };
+    let mut corpus = Corpus::default();
+    for case in document::cases() {
+        corpus.add(&case);
+    }
+    let mut generator = Generator::with_distinct_keys(SEED);
+    for _ in 0..GENERATED {
+        corpus.add(&generator.next_case());
+    }
+    assert_eq!(corpus.repeated, 0, "two whole listings share a key");
+    let often = corpus.refusals[1..].iter().all(|&count| count > 100);
+    assert!(often, "a refusal is given too seldom");
+    corpus.write(Path::new(&folder))?;
+    corpus.table();
+    Ok(())
+}

@@ -1,0 +1,238 @@
+//! The cases that document 01 itself names: its whole case, and both sides of each line.
+
+use super::draft::Draft;
+use crate::call::{Call, Registration};
+use crate::case::Case;
+use crate::format::{format, Plan};
+use crate::order::ByteOrder;
+use crate::reading::Reading;
+use crate::record::record;
+
+const PLAIN: Plan = Plan {
+    order: ByteOrder::Little,
+    base: 0x2000_0000,
+    mask: 0xFFFF,
+    name_size: 8,
+    entries: 0,
+};
+
+pub fn cases() -> Vec<Case> {
+    vec![
+        whole_case("the whole case", ByteOrder::Little, 8192),
+        whole_case("the whole case, big-endian", ByteOrder::Big, 1),
+        masks(),
+        top_of_memory(),
+        smallest_buffer(80),
+        smallest_buffer(79),
+        gaps(),
+        microseconds(),
+        name_bytes(),
+        last_serial(),
+        wrong_length(47),
+        wrong_length(65_537),
+        largest_listing(),
+        largest_times(),
+    ]
+}
+
+fn start(title: &str, length: usize, plan: Plan) -> Draft {
+    let mut draft = Draft::new(title, vec![0xEE; length], Vec::new());
+    draft.make(Call::Format(plan));
+    draft
+}
+
+fn thread(pointer: u32, name: &[u8]) -> Call {
+    Call::Register(Registration {
+        kind: 1,
+        pointer,
+        parameters: [0x2000_3000, 1024],
+        reserved: [16, 0],
+        name: name.to_vec(),
+    })
+}
+
+fn plain_words(stamp: u32) -> [u32; 8] {
+    [0x2000_1000, 16, 5, stamp, 1, 2, 3, 4]
+}
+
+fn plain_event(stamp: u32) -> Call {
+    Call::Record(plain_words(stamp))
+}
+
+fn listing(rate: u32, unit: u32, serial: u64) -> Call {
+    Call::Listing {
+        reading: Reading::new(rate, unit, serial),
+        room: 2_000,
+    }
+}
+
+fn whole_case(title: &str, order: ByteOrder, unit: u32) -> Case {
+    let plan = Plan {
+        order,
+        entries: 1,
+        ..PLAIN
+    };
+    let mut draft = start(title, 168, plan);
+    draft.make(thread(0x2000_1000, b"pump"));
+    draft.make(plain_event(9));
+    draft.make(plain_event(65_500));
+    draft.make(Call::Record([
+        0xFFFF_FFFF,
+        0x2000_1000,
+        1025,
+        20,
+        0,
+        0,
+        0,
+        0,
+    ]));
+    draft.make(Call::Record([0x2000_2000, 16, 6, 20, 7, 0, 0, 0]));
+    draft.make(Call::Check);
+    draft.make(Call::FindName {
+        pointer: 0x2000_1000,
+    });
+    for position in 0..4 {
+        draft.make(Call::Event { position });
+        draft.make(Call::Line {
+            reading: Reading::new(3_000_000, unit, 0),
+            position,
+            room: 200,
+        });
+    }
+    draft.make(listing(3_000_000, unit, 0));
+    draft.make(Call::Bytes);
+    draft.finish()
+}
+
+fn masks() -> Case {
+    let mut draft = Draft::new("masks", vec![0xEE; 80], Vec::new());
+    for mask in [0x1, u32::MAX, 0, 0x5, 0xFF00] {
+        draft.make(Call::Format(Plan { mask, ..PLAIN }));
+        draft.make(Call::Check);
+    }
+    draft.finish()
+}
+
+fn top_of_memory() -> Case {
+    let plan = Plan {
+        base: 0xFFFF_FF00,
+        name_size: 4,
+        entries: 4,
+        ..PLAIN
+    };
+    let mut draft = start("top of memory", 256, plan);
+    draft.make(Call::Check);
+    for stamp in 1..6 {
+        draft.make(plain_event(stamp));
+    }
+    draft.make(Call::Check);
+    draft.make(listing(1_000_000, 2, 0));
+    draft.finish()
+}
+
+fn smallest_buffer(length: usize) -> Case {
+    let mut draft = start("smallest buffer", length, PLAIN);
+    draft.make(Call::Check);
+    draft.finish()
+}
+
+fn gaps() -> Case {
+    let mut draft = start("gaps", 48 + 96, PLAIN);
+    for stamp in [65_500, 20, 20] {
+        draft.make(plain_event(stamp));
+    }
+    draft.make(listing(1_000_000, 3, 0));
+    draft.finish()
+}
+
+fn microseconds() -> Case {
+    let plan = Plan {
+        mask: u32::MAX,
+        ..PLAIN
+    };
+    let mut draft = start("microseconds", 48 + 160, plan);
+    for ticks in [
+        0,
+        4_000_000_000,
+        8_000_000_000,
+        9_007_199_254,
+        9_007_199_255u64,
+    ] {
+        draft.make(plain_event(ticks as u32));
+    }
+    draft.make(listing(1, 4, 0));
+    draft.finish()
+}
+
+fn name_bytes() -> Case {
+    let mut draft = start(
+        "name bytes",
+        48 + 24 + 32,
+        Plan {
+            entries: 1,
+            ..PLAIN
+        },
+    );
+    draft.make(thread(0x2000_1000, &[0x41, 0x22, 0x0A]));
+    draft.make(plain_event(0));
+    draft.make(listing(1, 5, 0));
+    draft.finish()
+}
+
+fn last_serial() -> Case {
+    let mut draft = start("last serial", 48 + 64, PLAIN);
+    draft.make(plain_event(0));
+    draft.make(listing(1, 6, 1_099_511_627_775));
+    draft.make(plain_event(1));
+    draft.make(listing(1, 7, 1_099_511_627_775));
+    draft.make(listing(1, 7, 1_099_511_627_774));
+    draft.finish()
+}
+
+/// The length is refused before the id, which is bad.
+fn wrong_length(length: usize) -> Case {
+    let mut draft = start("wrong length", length, PLAIN);
+    draft.make(Call::Check);
+    draft.finish()
+}
+
+/// Every slot of the largest buffer, all bytes 1.
+fn largest_listing() -> Case {
+    let mut sketch = Draft::new("", vec![1; 65_536], Vec::new());
+    sketch.make(Call::Format(PLAIN));
+    let mut buffer = sketch.buffer;
+    buffer[48..].fill(1);
+    let mut draft = Draft::new("largest listing", buffer, Vec::new());
+    draft.make(Call::Check);
+    draft.make(Call::Event { position: 2_045 });
+    draft.make(Call::Event { position: 2_046 });
+    draft.make(Call::Listing {
+        reading: Reading::new(1, 8, 0),
+        room: 1_599_000,
+    });
+    draft.finish()
+}
+
+/// Each gap is one less than the timer's range, at the lowest rate: microseconds of nineteen digits.
+fn largest_times() -> Case {
+    let mut buffer = vec![0; 65_536];
+    let plan = Plan {
+        mask: u32::MAX,
+        ..PLAIN
+    };
+    format(&mut buffer, &plan).expect("the plan is sound");
+    for position in 0..2_046u32 {
+        let words = plain_words(0u32.wrapping_sub(position));
+        record(&mut buffer, &words).expect("the event is sound");
+    }
+    let mut draft = Draft::new("largest times", buffer, Vec::new());
+    for position in [1, 2_044, 2_045] {
+        draft.make(Call::Event { position });
+        draft.make(Call::Line {
+            reading: Reading::new(1, 9, 0),
+            position,
+            room: 200,
+        });
+    }
+    draft.finish()
+}

@@ -1,0 +1,130 @@
+//! A case in the making: each call is made on the buffer at once, so that the next can fit its state.
+
+use super::chance::Chance;
+use super::readings::{self, Readings};
+use crate::answers::{answer, Reply};
+use crate::call::Call;
+use crate::case::Case;
+use crate::check::check;
+use crate::limits::{INIT_POINTER, ISR_POINTER};
+use crate::line::line;
+use crate::listing::listing;
+use crate::reading::Reading;
+
+pub struct Draft {
+    title: String,
+    start: Vec<u8>,
+    pub buffer: Vec<u8>,
+    /// Pointers that entries and events of this case share.
+    pub pointers: Vec<u32>,
+    calls: Vec<Call>,
+}
+
+/// No line is longer than this.
+const LONGEST_LINE: usize = 640;
+const LARGEST_ROOM: u32 = 1_599_000;
+
+impl Draft {
+    pub fn new(title: &str, buffer: Vec<u8>, pointers: Vec<u32>) -> Draft {
+        Draft {
+            title: title.to_string(),
+            start: buffer.clone(),
+            buffer,
+            pointers,
+            calls: Vec::new(),
+        }
+    }
+
+    pub fn finish(self) -> Case {
+        Case::new(self.title, &self.start, self.calls)
+    }
+
+    pub fn make(&mut self, call: Call) -> Reply {
+        let reply = answer(&mut self.buffer, &call);
+        self.calls.push(call);
+        reply
+    }
+
+    /// The number of events, or 0 where the dump is refused.
+    pub fn events(&self) -> usize {
+        check(&self.buffer).map_or(0, |summary| summary.events)
+    }
+
+    pub fn check(&mut self) {
+        self.make(Call::Check);
+    }
+
+    pub fn event(&mut self, chance: &mut Chance) {
+        let position = position(chance, self.events());
+        self.make(Call::Event { position });
+    }
+
+    pub fn find_name(&mut self, chance: &mut Chance) {
+        let pointer = self.some_pointer(chance);
+        self.make(Call::FindName { pointer });
+    }
+
+    /// One of the shared pointers, or one that is often none of them.
+    pub fn some_pointer(&self, chance: &mut Chance) -> u32 {
+        if self.pointers.is_empty() || chance.one_in(5) {
+            chance.pick(&[0, 1, INIT_POINTER, ISR_POINTER, 0x2000_1000, 0x0010_0020])
+        } else {
+            chance.pick(&self.pointers)
+        }
+    }
+
+    pub fn line(&mut self, chance: &mut Chance) {
+        let events = self.events();
+        let reading = readings::any(chance, events);
+        let position = position(chance, events);
+        let mut output = [0; LONGEST_LINE];
+        let needed = line(&self.buffer, &reading, position, &mut output).unwrap_or(0);
+        self.make(Call::Line {
+            reading,
+            position,
+            room: room(chance, needed),
+        });
+    }
+
+    pub fn listing(&mut self, chance: &mut Chance, readings: &mut Readings) {
+        let events = self.events();
+        let reading = if chance.one_in(5) {
+            readings::refused(chance, events)
+        } else {
+            readings.accepted(chance, events)
+        };
+        let room = room(chance, self.listing_length(&reading));
+        self.make(Call::Listing { reading, room });
+    }
+
+    /// The length of the whole listing, or 0 where it is refused.
+    pub fn listing_length(&self, reading: &Reading) -> usize {
+        let mut output = vec![0; LONGEST_LINE * self.events()];
+        listing(&self.buffer, reading, &mut output).unwrap_or(0)
+    }
+}
+
+fn position(chance: &mut Chance, events: usize) -> usize {
+    let beyond = [events, events + 1, usize::MAX, 1 << 32, usize::MAX / 32 + 1];
+    match chance.below(6) {
+        0 => chance.pick(&beyond),
+        1 => events.saturating_sub(1),
+        2 => 0,
+        _ => chance.below(events),
+    }
+}
+
+/// Room for a text of the length: exact, too small, none, or plenty.
+fn room(chance: &mut Chance, needed: usize) -> u32 {
+    let needed = needed as u32;
+    match chance.below(16) {
+        0..=4 => needed,
+        5 | 6 => needed.saturating_sub(1),
+        7 => 0,
+        8 => chance.below(needed as usize) as u32,
+        9 => needed + 1,
+        10 | 11 => 8 * needed,
+        12 if chance.one_in(20) => LARGEST_ROOM,
+        _ => needed + chance.below(300) as u32,
+    }
+}

@@ -1,0 +1,100 @@
+//! What the calls give: an answer, or a refusal.
+
+use crate::raw::{self, Slot};
+
+/// A number and a place of document 01's table.
+#[derive(Clone, Copy, Debug, PartialEq, Eq)]
+pub struct Refusal {
+    pub number: u32,
+    pub place: usize,
+}
+
+/// The byte order, the header's fields as they are stored, and the number of events.
+#[derive(Clone, Copy, Debug, PartialEq, Eq)]
+pub struct Checked {
+    pub big: bool,
+    pub id: u32,
+    pub mask: u32,
+    pub base: u32,
+    pub registry_start: u32,
+    pub name_size: u16,
+    pub registry_end: u32,
+    pub buffer_start: u32,
+    pub buffer_end: u32,
+    pub current: u32,
+    pub events: usize,
+}
+
+#[derive(Clone, Copy, Debug, PartialEq, Eq)]
+pub enum Context {
+    Init,
+    Isr,
+    Thread,
+}
+
+/// One event; its name is a part of the dump.
+#[derive(Clone, Copy, Debug, PartialEq, Eq)]
+pub struct Event<'dump> {
+    pub slot: Slot,
+    pub ticks: u64,
+    pub context: Context,
+    pub name: Option<&'dump [u8]>,
+}
+
+fn unless_refused<T>(number: u32, place: usize, given: impl FnOnce() -> T) -> Result<T, Refusal> {
+    match number {
+        0 => Ok(given()),
+        _ => Err(Refusal { number, place }),
+    }
+}
+
+pub(crate) fn value(answer: raw::Answer) -> Result<usize, Refusal> {
+    unless_refused(answer.refusal, answer.place, || answer.value)
+}
+
+pub(crate) fn checked(answer: raw::Checked) -> Result<Checked, Refusal> {
+    unless_refused(answer.refusal, answer.place, || Checked {
+        big: answer.big != 0,
+        id: answer.id,
+        mask: answer.mask,
+        base: answer.base,
+        registry_start: answer.registry_start,
+        name_size: answer.name_size,
+        registry_end: answer.registry_end,
+        buffer_start: answer.buffer_start,
+        buffer_end: answer.buffer_end,
+        current: answer.current,
+        events: answer.events,
+    })
+}
+
+pub(crate) fn event(dump: &[u8], answer: raw::Event) -> Result<Event<'_>, Refusal> {
+    unless_refused(answer.refusal, answer.place, || Event {
+        slot: answer.slot,
+        ticks: answer.ticks,
+        context: context(answer.context),
+        name: part(dump, answer.named, answer.name_at, answer.name_length),
+    })
+}
+
+pub(crate) fn name(dump: &[u8], answer: raw::Name) -> Result<Option<&[u8]>, Refusal> {
+    unless_refused(answer.refusal, answer.place, || {
+        part(dump, answer.named, answer.at, answer.length)
+    })
+}
+
+fn part(dump: &[u8], named: u32, at: usize, length: usize) -> Option<&[u8]> {
+    (named != 0).then(|| &dump[at..][..length])
+}
+
+fn context(number: u32) -> Context {
+    match number {
+        raw::INIT => Context::Init,
+        raw::ISR => Context::Isr,
+        raw::THREAD => Context::Thread,
+        _ => panic!(
+            "the library gave the context {}, which the header does not name",
+            number
+        ),
+    }
+}

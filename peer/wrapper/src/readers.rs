@@ -1,0 +1,67 @@
+//! The calls that read a dump.
+
+use crate::answers::{self, Checked, Event, Refusal};
+use crate::raw::{self, Reading};
+
+/// Checks a dump: 1 to 13.
+pub fn check(dump: &[u8]) -> Result<Checked, Refusal> {
+    // SAFETY: the slice may be read for its length, and nothing writes it while it is borrowed.
+    answers::checked(unsafe { raw::lepsaino_check(dump.as_ptr(), dump.len()) })
+}
+
+/// One event by its position, from 0, oldest first: checks 1 to 13, then 25.
+pub fn event(dump: &[u8], position: usize) -> Result<Event<'_>, Refusal> {
+    // SAFETY: the slice may be read for its length, and nothing writes it while it is borrowed.
+    answers::event(dump, unsafe {
+        raw::lepsaino_event(dump.as_ptr(), dump.len(), position)
+    })
+}
+
+/// The name of the thread with a pointer, as the part of the dump that it is: checks 1 to 11.
+pub fn find_name(dump: &[u8], pointer: u32) -> Result<Option<&[u8]>, Refusal> {
+    // SAFETY: the slice may be read for its length, and nothing writes it while it is borrowed.
+    answers::name(dump, unsafe {
+        raw::lepsaino_find_name(dump.as_ptr(), dump.len(), pointer)
+    })
+}
+
+/// The line of one event at the front of the output, and its length: checks 1 to 15, then 25, 16.
+pub fn line(
+    dump: &[u8],
+    reading: Reading,
+    position: usize,
+    out: &mut [u8],
+) -> Result<usize, Refusal> {
+    // SAFETY: the output is borrowed for this call alone, so that it may be written and does not overlap the dump.
+    answers::value(unsafe {
+        raw::lepsaino_line(
+            dump.as_ptr(),
+            dump.len(),
+            reading,
+            position,
+            out.as_mut_ptr(),
+            out.len(),
+        )
+    })
+}
+
+/// A line for each event, oldest first, at the front of the output, and their length: checks 1 to 16.
+pub fn listing(dump: &[u8], reading: Reading, out: &mut [u8]) -> Result<usize, Refusal> {
+    // SAFETY: the output is borrowed for this call alone, so that it may be written and does not overlap the dump.
+    answers::value(unsafe {
+        raw::lepsaino_listing(
+            dump.as_ptr(),
+            dump.len(),
+            reading,
+            out.as_mut_ptr(),
+            out.len(),
+        )
+    })
+}
+
+/// The text of a number as in a line, at the front of the output, and its length; none where there is no room.
+pub fn number(out: &mut [u8], number: u64) -> Option<usize> {
+    // SAFETY: the output is borrowed for this call alone, so that it may be written for its length.
+    let length = unsafe { raw::lepsaino_number(out.as_mut_ptr(), out.len(), number) };
+    (length != 0).then_some(length)
+}
