@@ -21,3 +21,8 @@ GOALS = [
 ]
 # The check takes at most twice the time of reading the bytes once, in either way of reading them.
 GOALS += [("check", "sum", 0.5), ("check", "copy", 0.5)]
+# No check is slower than Rust by hand.
+CHECKS = ["check", "check-big", "check-entries", "check-refused-last", "check-refused-first"]
+GOALS += [(job, "plain", 1) for job in CHECKS]
+# Recording takes at most one and a half times the time of Rust behind a call, as the library is.
+GOALS += [(job, "plain-call", 1 / 1.5) for job in ["record", "record-big"]]

@@ -48,7 +48,7 @@ def goals(times):
     for job, competitor, goal in GOALS:
         (ours, ours_median), (best, median) = times[job][OURS], times[job][competitor]
         verdict = "met" if best >= goal * ours else "**MISSED**"
-        rows.append([JOBS[job], COMPETITORS[competitor], ratio_text(best / ours), ratio_text(median / ours_median), goal, verdict])
+        rows.append([JOBS[job], COMPETITORS[competitor], ratio_text(best / ours), ratio_text(median / ours_median), round(goal, 2), verdict])
     return table(["job", "competitor", "ratio by best times", "by medians", "goal", "verdict"], rows)
 
 
@@ -67,9 +67,9 @@ def instructions(path):
         return "Not counted in this run: there was no valgrind."
     rows = []
     for line in path.read_text().splitlines():
-        job, competitor, count = line.split()
-        rows.append([JOBS[job], COMPETITORS[competitor], count])
-    return table(["job", "competitor", "instructions for each event"], rows)
+        job, competitor, count, each = line.split()
+        rows.append([JOBS[job], COMPETITORS[competitor], f"{int(count):,}", each])
+    return table(["job", "competitor", "instructions", "for each"], rows)
 
 
 def event_growth(growth):

@@ -1,20 +1,18 @@
 //! The baselines in Rust do all that document 01 asks: they give what the peer gives, refusals too.
 
+use crate::competitors::refused_by_peer;
+use crate::plain::check::check;
+use crate::plain::find::find_name;
 use crate::plain::record::record;
-use crate::plain::Refusal;
 use crate::with_itoa;
 use peer::call::Call;
 use peer::generate::Generator;
 
 const CASES: usize = 20_000;
 
-fn refusal(refusal: peer::Refusal) -> Refusal {
-    (refusal.number, refusal.place)
-}
-
 fn compare_listing(dump: &[u8], reading: &peer::Reading) {
     let mut room = vec![0; 1_600_000];
-    let length = peer::listing(dump, reading, &mut room).map_err(refusal);
+    let length = peer::listing(dump, reading, &mut room).map_err(refused_by_peer);
     let expected = length.map(|length| room[..length].to_vec());
     let lepsaino = lepsaino::Reading {
         rate: reading.rate,
@@ -28,9 +26,21 @@ fn compare_listing(dump: &[u8], reading: &peer::Reading) {
     }
 }
 
+fn compare_check(dump: &[u8]) {
+    let expected = peer::check(dump).map(|summary| summary.events);
+    assert_eq!(check(dump), expected.map_err(refused_by_peer));
+}
+
+/// The same bytes at the same place.
+fn compare_name(dump: &[u8], pointer: u32) {
+    let given = find_name(dump, pointer).map(|name| name.map(<[u8]>::as_ptr_range));
+    let expected = peer::find_name(dump, pointer).map(|name| name.map(<[u8]>::as_ptr_range));
+    assert_eq!(given, expected.map_err(refused_by_peer));
+}
+
 fn compare_record(buffer: &mut [u8], words: &[u32; 8]) {
     let mut other = buffer.to_vec();
-    let expected = peer::record(buffer, words).map_err(refusal);
+    let expected = peer::record(buffer, words).map_err(refused_by_peer);
     assert_eq!(record(&mut other, words), expected);
     assert!(other == buffer, "another buffer");
 }
@@ -46,6 +56,8 @@ fn baselines_agree_with_the_peer() {
                 Call::Line { reading, .. } | Call::Listing { reading, .. } => {
                     compare_listing(&buffer, reading)
                 }
+                Call::Check => compare_check(&buffer),
+                Call::FindName { pointer } => compare_name(&buffer, *pointer),
                 Call::Record(words) => compare_record(&mut buffer, words),
                 _ => drop(peer::answers::answer(&mut buffer, call)),
             }

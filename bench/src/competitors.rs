@@ -1,7 +1,7 @@
 //! Who competes in each job, each behind a function of the same form.
 
 use crate::contest::opaque;
-use crate::plain::{check, record};
+use crate::plain::{called, check, find, record, Refusal};
 use crate::{with_itoa, with_serde};
 use lepsaino::{Reading, Slot};
 
@@ -11,6 +11,10 @@ const ROOM: usize = 1_600_000;
 /// Writes a text to the front of the output, which it may use again, and gives its length.
 pub type Lister = fn(&[u8], Reading, &mut Vec<u8>) -> usize;
 pub type Printer = fn(&[u64], &mut Vec<u8>) -> usize;
+/// Gives the number of events.
+pub type Checker = fn(&[u8]) -> Result<usize, Refusal>;
+/// Gives the name that belongs to the pointer.
+pub type Finder = fn(&[u8], u32) -> Result<Option<&[u8]>, Refusal>;
 /// Records so many events and gives the index of the last slot filled.
 pub type Recorder = fn(&mut [u8], u32) -> usize;
 /// Reads the dump, or copies it into the other bytes.
@@ -55,20 +59,33 @@ pub const PRINTERS: [(&str, Printer); 3] = [
     }),
 ];
 
-pub const READERS: [(&str, Reader); 5] = [
-    ("lepsaino", |dump, _| {
-        lepsaino::check(dump).unwrap().events as u64
+pub const CHECKERS: [(&str, Checker); 4] = [
+    ("lepsaino", |dump| match lepsaino::check(dump) {
+        Ok(checked) => Ok(checked.events),
+        Err(refusal) => Err(refused(refusal)),
     }),
-    ("plain", |dump, _| check::check(dump).unwrap() as u64),
-    ("peer", |dump, _| peer::check(dump).unwrap().events as u64),
-    ("sum", |dump, _| sum(dump)),
-    ("copy", |dump, copy| {
-        copy.copy_from_slice(dump);
-        u64::from(copy[0])
+    ("plain", |dump| check::check(dump)),
+    ("plain-call", |dump| called::check(dump)),
+    ("peer", |dump| match peer::check(dump) {
+        Ok(summary) => Ok(summary.events),
+        Err(refusal) => Err(refused_by_peer(refusal)),
     }),
 ];
 
-pub const RECORDERS: [(&str, Recorder); 3] = [
+pub const FINDERS: [(&str, Finder); 4] = [
+    ("lepsaino", |dump, pointer| {
+        lepsaino::find_name(dump, pointer).map_err(refused)
+    }),
+    ("plain", |dump, pointer| find::find_name(dump, pointer)),
+    ("plain-call", |dump, pointer| {
+        called::find_name(dump, pointer)
+    }),
+    ("peer", |dump, pointer| {
+        peer::find_name(dump, pointer).map_err(refused_by_peer)
+    }),
+];
+
+pub const RECORDERS: [(&str, Recorder); 4] = [
     ("lepsaino", |buffer, events| {
         repeat(events, |words| {
             lepsaino::record(buffer, slot(words)).unwrap()
@@ -77,10 +94,30 @@ pub const RECORDERS: [(&str, Recorder); 3] = [
     ("plain", |buffer, events| {
         repeat(events, |words| record::record(buffer, &words).unwrap())
     }),
+    ("plain-call", |buffer, events| {
+        repeat(events, |words| called::record(buffer, &words).unwrap())
+    }),
     ("peer", |buffer, events| {
         repeat(events, |words| peer::record(buffer, &words).unwrap())
     }),
 ];
+
+/// These only touch the bytes.
+pub const READERS: [(&str, Reader); 2] = [
+    ("sum", |dump, _| sum(dump)),
+    ("copy", |dump, copy| {
+        copy.copy_from_slice(dump);
+        u64::from(copy[0])
+    }),
+];
+
+fn refused(refusal: lepsaino::Refusal) -> Refusal {
+    (refusal.number, refusal.place)
+}
+
+pub fn refused_by_peer(refusal: peer::Refusal) -> Refusal {
+    (refusal.number, refusal.place)
+}
 
 /// The library writes into bytes that are lent, which must be there.
 fn lend(out: &mut Vec<u8>) {

@@ -3,8 +3,9 @@
 use crate::stream::{Stream, INIT, ISR};
 use lepsaino::{Format, Object, Reading, Slot};
 
-/// How many events are recorded where recording is timed.
-pub const RECORDED: u32 = 1_000_000;
+/// The byte orders, as formatting has them.
+pub const LITTLE: u32 = 0;
+pub const BIG: u32 = 1;
 
 const LARGEST: usize = 65_536;
 const BASE: u32 = 0x2000_0000;
@@ -26,10 +27,10 @@ pub struct Dump {
 }
 
 impl Dump {
-    fn formatted(length: usize, name_size: u16, entries: usize, unit: u32) -> Dump {
+    fn formatted(length: usize, big: u32, name_size: u16, entries: usize, unit: u32) -> Dump {
         let mut bytes = vec![0; length];
         let format = Format {
-            big: 0,
+            big,
             base: BASE,
             mask: 0xFFFF_FFFF,
             name_size,
@@ -63,18 +64,18 @@ impl Dump {
 }
 
 /// At irregular distances; the factor is odd, so that all are distinct.
-fn thread(index: usize) -> u32 {
+pub const fn thread(index: usize) -> u32 {
     BASE + 0x1000 + 4 * ((index as u32).wrapping_mul(0x9E37_79B1) & 0x3_FFFF)
 }
 
 /// No entries and no events.
-pub fn empty() -> Dump {
-    Dump::formatted(LARGEST, 4, 0, 0)
+pub fn empty(big: u32) -> Dump {
+    Dump::formatted(LARGEST, big, 4, 0, 0)
 }
 
 /// 2,046 events of twelve threads and interrupts, no entries, keys that are printed bare.
-pub fn full() -> Dump {
-    let mut dump = Dump::formatted(LARGEST, 4, 0, 4_711);
+pub fn full(big: u32) -> Dump {
+    let mut dump = Dump::formatted(LARGEST, big, 4, 0, 4_711);
     let mut stream = Stream::new();
     let mut running = thread(0);
     for _ in 0..dump.events + 700 {
@@ -91,10 +92,17 @@ pub fn full() -> Dump {
     dump
 }
 
+/// The full dump with no id in one of its slots.
+pub fn without_id(slot: usize) -> Dump {
+    let mut dump = full(LITTLE);
+    dump.bytes[48 + 32 * slot + 8..][..4].fill(0);
+    dump
+}
+
 /// 400 threads with names, each event another's than the one before, keys that are printed in quotes.
 pub fn with_names() -> Dump {
     const THREADS: usize = 400;
-    let mut dump = Dump::formatted(LARGEST, 32, THREADS, 8_192);
+    let mut dump = Dump::formatted(LARGEST, LITTLE, 32, THREADS, 8_192);
     for index in 0..THREADS {
         let name = format!("{} {}", KINDS[index % KINDS.len()], index);
         dump.register(thread(index), &name);
@@ -113,10 +121,16 @@ pub fn with_names() -> Dump {
     dump
 }
 
+/// 1,500 threads, and beside them as many events as the largest dump has room for.
+pub fn with_entries() -> Dump {
+    const THREADS: usize = 1_500;
+    growing((LARGEST - 48 - 20 * THREADS) / 32, THREADS, THREADS)
+}
+
 /// So many events and so many entries; the events leap about among the last so many threads.
 pub fn growing(events: usize, entries: usize, threads: usize) -> Dump {
     let length = 48 + 20 * entries + 32 * events;
-    let mut dump = Dump::formatted(length, 4, entries, 4_711);
+    let mut dump = Dump::formatted(length, LITTLE, 4, entries, 4_711);
     for index in 0..entries {
         dump.register(thread(index), &index.to_string());
     }

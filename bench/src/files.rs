@@ -1,26 +1,38 @@
-//! Writes the dumps and the library's answers into a folder, once every competitor in Rust has given the same.
+//! Writes dumps and the library's answers into a folder, once every competitor in Rust has given the same.
 
-use crate::competitors::{LISTERS, PRINTERS, READERS, RECORDERS};
-use crate::dumps::{empty, full, with_names, Dump, RECORDED};
+use crate::competitors::{CHECKERS, FINDERS, LISTERS, PRINTERS, RECORDERS};
+use crate::dumps::{full, with_names, Dump, LITTLE};
+use crate::jobs::{Job, Work, JOBS, RECORDED};
 use crate::numbers::fixed;
+use crate::plain::Refusal;
 use std::io;
 use std::path::Path;
 
 pub fn write(folder: &Path) -> io::Result<()> {
     std::fs::create_dir_all(folder)?;
-    write_listing(folder, "full", &full())?;
-    write_listing(folder, "names", &with_names())?;
-    std::fs::write(folder.join("check.text"), events(&full().bytes))?;
-    std::fs::write(folder.join("record.dump"), recorded())?;
-    std::fs::write(folder.join("numbers.text"), printed())
+    write_dump(folder, "full", &full(LITTLE))?;
+    write_dump(folder, "names", &with_names())?;
+    for job in JOBS {
+        std::fs::write(folder.join(format!("{}.answer", job.name)), answer(&job))?;
+    }
+    std::fs::write(folder.join("numbers.answer"), printed())
 }
 
-fn write_listing(folder: &Path, name: &str, dump: &Dump) -> io::Result<()> {
+fn write_dump(folder: &Path, name: &str, dump: &Dump) -> io::Result<()> {
     let reading = dump.reading;
     let words = format!("{} {} {}\n", reading.rate, reading.unit, reading.serial);
     std::fs::write(folder.join(format!("{name}.dump")), &dump.bytes)?;
-    std::fs::write(folder.join(format!("{name}.reading")), words)?;
-    std::fs::write(folder.join(format!("{name}.text")), agreed_listing(dump))
+    std::fs::write(folder.join(format!("{name}.reading")), words)
+}
+
+fn answer(job: &Job) -> Vec<u8> {
+    let dump = (job.dump)();
+    match job.work {
+        Work::List => agreed_listing(&dump),
+        Work::Check(expected) => checked(&dump, expected).into_bytes(),
+        Work::Find(pointer, expected) => found(&dump, pointer, expected).to_vec(),
+        Work::Record => recorded(&dump),
+    }
 }
 
 pub fn agreed_listing(dump: &Dump) -> Vec<u8> {
@@ -31,20 +43,24 @@ pub fn agreed_listing(dump: &Dump) -> Vec<u8> {
     }))
 }
 
-/// Two of the readers only read the bytes.
-fn events(dump: &[u8]) -> String {
-    let checks = READERS
-        .iter()
-        .filter(|(name, _)| !["sum", "copy"].contains(name));
-    let events: Vec<_> = checks
-        .map(|(name, read)| (*name, read(dump, &mut [])))
-        .collect();
-    format!("{}\n", agreed(events))
+fn checked(dump: &Dump, expected: Result<usize, Refusal>) -> String {
+    let answer = agreed(CHECKERS.map(|(name, check)| (name, check(&dump.bytes))));
+    assert_eq!(answer, expected);
+    match answer {
+        Ok(events) => format!("{events}\n"),
+        Err((number, place)) => format!("refused by {number} at {place}\n"),
+    }
 }
 
-fn recorded() -> Vec<u8> {
+fn found<'a>(dump: &'a Dump, pointer: u32, expected: &[u8]) -> &'a [u8] {
+    let answer = agreed(FINDERS.map(|(name, find)| (name, find(&dump.bytes, pointer))));
+    assert_eq!(answer, Ok(Some(expected)));
+    answer.unwrap().unwrap()
+}
+
+fn recorded(dump: &Dump) -> Vec<u8> {
     agreed(RECORDERS.map(|(name, record)| {
-        let mut buffer = empty().bytes;
+        let mut buffer = dump.bytes.clone();
         record(&mut buffer, RECORDED);
         (name, buffer)
     }))

@@ -1,23 +1,92 @@
-//! The jobs that are timed.
+//! The jobs, and how they are timed.
 
-use crate::competitors::{Lister, Printer, Reader, Recorder};
-use crate::competitors::{LISTERS, PRINTERS, READERS, RECORDERS};
+use crate::competitors::{Checker, Finder, Lister, Printer, Reader, Recorder};
+use crate::competitors::{CHECKERS, FINDERS, LISTERS, PRINTERS, READERS, RECORDERS};
 use crate::contest::{contest, opaque, Competitor, Measure};
-use crate::dumps::{empty, full, with_names, Dump, RECORDED};
+use crate::dumps::{empty, full, thread, with_entries, with_names, without_id, Dump, BIG, LITTLE};
 use crate::numbers::fixed;
+use crate::plain::Refusal;
+
+/// How many events are recorded in a call where recording is timed.
+pub const RECORDED: u32 = 1_000_000;
+
+/// What is done to a dump; for a check and a search, what must come of it.
+pub enum Work {
+    List,
+    Check(Result<usize, Refusal>),
+    Find(u32, &'static [u8]),
+    Record,
+}
+
+pub struct Job {
+    pub name: &'static str,
+    pub dump: fn() -> Dump,
+    pub work: Work,
+}
+
+/// All but the numbers, which have no dump.
+pub const JOBS: [Job; 10] = [
+    job("listing-full", || full(LITTLE), Work::List),
+    job("listing-names", with_names, Work::List),
+    job("check", || full(LITTLE), Work::Check(Ok(2_046))),
+    job("check-big", || full(BIG), Work::Check(Ok(2_046))),
+    job("check-entries", with_entries, Work::Check(Ok(1_109))),
+    job(
+        "check-refused-last",
+        || without_id(2_045),
+        Work::Check(Err((13, 2_045))),
+    ),
+    job(
+        "check-refused-first",
+        || without_id(0),
+        Work::Check(Err((13, 0))),
+    ),
+    job(
+        "find-last",
+        with_entries,
+        Work::Find(thread(1_499), b"1499"),
+    ),
+    job("record", || empty(LITTLE), Work::Record),
+    job("record-big", || empty(BIG), Work::Record),
+];
+
+const fn job(name: &'static str, dump: fn() -> Dump, work: Work) -> Job {
+    Job { name, dump, work }
+}
 
 pub fn run(rounds: usize) {
-    list("listing-full", &full(), rounds);
-    list("listing-names", &with_names(), rounds);
-    check(&full().bytes, rounds);
-    // A million events take as long as a hundred listings.
-    record((rounds / 20).max(3));
+    for job in JOBS {
+        time(&job, rounds);
+    }
     print(&fixed(), rounds);
 }
 
-fn list(job: &str, dump: &Dump, rounds: usize) {
-    let competitors = LISTERS.iter().map(|entry| lister(*entry, dump)).collect();
-    contest(&Measure::new(job, 1, 1), rounds, competitors);
+fn time(job: &Job, rounds: usize) {
+    let dump = (job.dump)();
+    let mut competitors = competitors(job, &dump, RECORDED);
+    // One check is compared with reading the bytes, too.
+    if job.name == "check" {
+        competitors.extend(READERS.map(|entry| reader(entry, &dump)));
+    }
+    let (calls, parts, rounds) = match job.work {
+        Work::List => (1, 1, rounds),
+        Work::Check(_) | Work::Find(..) => (20, 1, rounds),
+        // A million events take as long as a hundred listings.
+        Work::Record => (1, RECORDED as usize, (rounds / 20).max(3)),
+    };
+    contest(&Measure::new(job.name, calls, parts), rounds, competitors);
+}
+
+/// Who competes on the dump, which is the job's; so many events are recorded in a call.
+pub fn competitors<'a>(job: &Job, dump: &'a Dump, recorded: u32) -> Vec<Competitor<'a>> {
+    match job.work {
+        Work::List => LISTERS.map(|entry| lister(entry, dump)).into(),
+        Work::Check(_) => CHECKERS.map(|entry| checker(entry, dump)).into(),
+        Work::Find(pointer, _) => FINDERS.map(|entry| finder(entry, dump, pointer)).into(),
+        Work::Record => RECORDERS
+            .map(|entry| recorder(entry, dump, recorded))
+            .into(),
+    }
 }
 
 pub fn lister<'a>((name, list): (&'static str, Lister), dump: &'a Dump) -> Competitor<'a> {
@@ -26,23 +95,35 @@ pub fn lister<'a>((name, list): (&'static str, Lister), dump: &'a Dump) -> Compe
     Competitor::new(name, call)
 }
 
-fn check(dump: &[u8], rounds: usize) {
-    let reader = |&(name, read): &(&'static str, Reader)| {
-        let mut copy = vec![0; dump.len()];
-        Competitor::new(name, move || read(opaque(dump), &mut copy))
-    };
-    let competitors = READERS.iter().map(reader).collect();
-    contest(&Measure::new("check", 20, 1), rounds, competitors);
+fn checker<'a>((name, check): (&'static str, Checker), dump: &'a Dump) -> Competitor<'a> {
+    let call = move || check(opaque(&dump.bytes)).unwrap_or_else(|(_, place)| place) as u64;
+    Competitor::new(name, call)
 }
 
-fn record(rounds: usize) {
-    let recorder = |&(name, record): &(&'static str, Recorder)| {
-        let mut buffer = empty().bytes;
-        Competitor::new(name, move || record(&mut buffer, RECORDED) as u64)
+fn finder<'a>(
+    (name, find): (&'static str, Finder),
+    dump: &'a Dump,
+    pointer: u32,
+) -> Competitor<'a> {
+    let call = move || {
+        let name = find(opaque(&dump.bytes), opaque(pointer)).unwrap();
+        name.unwrap().len() as u64
     };
-    let competitors = RECORDERS.iter().map(recorder).collect();
-    let measure = Measure::new("record", 1, RECORDED as usize);
-    contest(&measure, rounds, competitors);
+    Competitor::new(name, call)
+}
+
+fn recorder<'a>(
+    (name, record): (&'static str, Recorder),
+    dump: &Dump,
+    events: u32,
+) -> Competitor<'a> {
+    let mut buffer = dump.bytes.clone();
+    Competitor::new(name, move || record(&mut buffer, events) as u64)
+}
+
+fn reader<'a>((name, read): (&'static str, Reader), dump: &'a Dump) -> Competitor<'a> {
+    let mut copy = vec![0; dump.bytes.len()];
+    Competitor::new(name, move || read(opaque(&dump.bytes), &mut copy))
 }
 
 fn print(numbers: &[u64], rounds: usize) {

@@ -1,5 +1,5 @@
 //! `bench files FOLDER` writes the dumps and the library's answers. `bench times ROUNDS` and `bench growth ROUNDS` print lines
-//! of a job, a competitor and its best and median nanoseconds. `bench repeat JOB COMPETITOR TIMES` lists a dump so many times.
+//! of a job, a competitor and its best and median nanoseconds. `bench repeat JOB COMPETITOR TIMES` does a job so many times.
 
 #[cfg(test)]
 mod agreement;
@@ -11,6 +11,7 @@ mod growth;
 mod jobs;
 mod numbers;
 mod plain;
+mod repeat;
 mod stream;
 mod with_itoa;
 mod with_serde;
@@ -36,26 +37,8 @@ fn run(words: &[&str]) -> Option<()> {
         ["files", folder] => files::write(Path::new(folder)).expect("a folder that can be written"),
         ["times", rounds] => jobs::run(rounds.parse().ok()?),
         ["growth", rounds] => growth::run(rounds.parse().ok()?),
-        ["repeat", job, competitor, times] => repeat(job, competitor, times.parse().ok()?)?,
+        ["repeat", job, competitor, times] => repeat::run(job, competitor, times.parse().ok()?)?,
         _ => return None,
     }
-    Some(())
-}
-
-/// To count instructions: the difference between two numbers of times is the listing's own.
-fn repeat(job: &str, competitor: &str, times: u32) -> Option<()> {
-    let dump = match job {
-        "listing-full" => dumps::full(),
-        "listing-names" => dumps::with_names(),
-        _ => return None,
-    };
-    let entry = competitors::LISTERS
-        .iter()
-        .find(|(name, _)| *name == competitor)?;
-    let mut competitor = jobs::lister(*entry, &dump);
-    for _ in 0..times {
-        contest::opaque((competitor.call)());
-    }
-    println!("{}", dump.events);
     Some(())
 }

@@ -1,7 +1,10 @@
 //! What the baselines in Rust share: a reader and a recorder as a careful user would write them by hand.
+//! The ways in are always inlined, however many callers there are; loops are left to the compiler, which does better with them.
 
+pub mod called;
 pub mod check;
 pub mod events;
+pub mod find;
 pub mod layout;
 pub mod names;
 pub mod record;

@@ -43,10 +43,9 @@ pub library : Library
 library = record {
   words = record {
     byte = equation (λ κs a v w. refl);
-    four = equation (λ κs a v w. refl);
+    «in_order» = equation (λ κs a v w. refl);
     half = equation (λ κs a v w. refl);
     word = equation (λ κs a v w. refl);
-    «low_byte» = equation (λ κs a v w. refl);
     «put_byte» = leaves {value = λ κs a. tt} (λ κs a x e p. (refl, p)) (λ κs a v w e i. (e i, v .1));
     «put_half» = leaves {value = λ κs a. tt} (λ κs a x e p. (refl, p)) (λ κs a v w e i. (e i, v .1));
     «put_word» = leaves {value = λ κs a. tt} (λ κs a x e p. (refl, p)) (λ κs a v w e i. (e i, v .1));
@@ -61,6 +60,7 @@ library = record {
     either = equation (λ κs a v w. refl);
     both = equation (λ κs a v w. refl);
     above = equation (λ κs a v w. refl);
+    least = equation (λ κs a v w. refl);
   };
   header = record {
     «header_of» = equation (λ κs a v w. refl);

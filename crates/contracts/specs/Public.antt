@@ -24,10 +24,9 @@ use Rattle.contracts.specs.Settled.{Settled, SettledAs, unnamed}
 
 pub record Words : Type 0 where
   pub byte : Settled words.byte.ended words.byte.Reads.Asked words.byte.Reads.Learnt
-  pub four : Settled words.four.ended words.four.Reads.Asked words.four.Reads.Learnt
+  pub «in_order» : Settled words.«in_order».ended words.«in_order».Reads.Asked words.«in_order».Reads.Learnt
   pub half : Settled words.half.ended words.half.Reads.Asked words.half.Reads.Learnt
   pub word : Settled words.word.ended words.word.Reads.Asked words.word.Reads.Learnt
-  pub «low_byte» : Settled words.«low_byte».ended words.«low_byte».Reads.Asked words.«low_byte».Reads.Learnt
   pub «put_byte» : Settled words.«put_byte».ended words.«put_byte».Reads.Asked words.«put_byte».Reads.Learnt
   pub «put_half» : Settled words.«put_half».ended words.«put_half».Reads.Asked words.«put_half».Reads.Learnt
   pub «put_word» : Settled words.«put_word».ended words.«put_word».Reads.Asked words.«put_word».Reads.Learnt
@@ -42,6 +41,7 @@ pub record Rows : Type 0 where
   pub either : Settled rows.either.ended rows.either.Reads.Asked rows.either.Reads.Learnt
   pub both : Settled rows.both.ended rows.both.Reads.Asked rows.both.Reads.Learnt
   pub above : Settled rows.above.ended rows.above.Reads.Asked rows.above.Reads.Learnt
+  pub least : Settled rows.least.ended rows.least.Reads.Asked rows.least.Reads.Learnt
 
 pub record Header : Type 0 where
   pub «header_of» : Settled header.«header_of».ended header.«header_of».Reads.Asked header.«header_of».Reads.Learnt

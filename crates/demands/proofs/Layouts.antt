@@ -19,7 +19,7 @@ use Rattle.words.specs.declared.Order.the-variants.{Big, Little}
 use Rattle.writing.proofs.EntryBytes.{entry-length, field-is, flag-back, free-back, free-flag, free-zeros, name-run, pointer-back, type-back}
 use Rattle.writing.proofs.FreshBytes.{header-back}
 use Rattle.writing.proofs.SlotBytes.{slot-back}
-use Rattle.writing.proofs.Stores.{same-header}
+use Rattle.trace.proofs.SameBytes.{same-header}
 use Rattle.writing.specs.Arguments.{IsHeader, IsObject}
 use Rattle.writing.specs.Bytes.{entryBytes, fitted, headerBytes, headerFields, ifThread}
 use Rattle.writing.specs.declared.Object.{Object}

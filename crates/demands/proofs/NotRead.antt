@@ -33,7 +33,7 @@ use Rattle.trace.specs.declared.Wanted.{Wanted}
 use Rattle.trace.specs.declared.Wanted.the-variants.{BadType, Free, InUse, Thread}
 use Rattle.writing.proofs.SameNames.{SameNamed, names-agree}
 use Rattle.writing.proofs.SameRegistry.{lowest-wanted, registry-kept}
-use Rattle.writing.proofs.Stores.{SameBut, same-header, same-slot}
+use Rattle.trace.proofs.SameBytes.{SameBut, same-header, same-slot}
 use Rattle.writing.specs.Table.{lowestEntry, row19, row20, row21, row22, row23}
 use Rattle.writing.specs.Writing.{Change, recording, recordingRows, registering, removing, said}
 use Rattle.writing.specs.Writing as writing

@@ -10,7 +10,7 @@ use Rattle.rows.specs.Lowest.{lowest}
 use Rattle.rows.specs.Rows.{firstBroken}
 use Rattle.rows.specs.declared.Verdict.the-variants.{Passed}
 use Rattle.text.specs.Ascii.{ascii}
-use Rattle.trace.specs.Layout.{headerIn, slotSize}
+use Rattle.trace.specs.Layout.{headerIn, slotSize, withCurrent}
 use Rattle.trace.specs.Registry.{isInUse, isAllowedType, isWantedAt}
 use Rattle.trace.specs.Table.{row1, row2, row3, row4, row5, row6, row7, row8, row9, row10}
 use Rattle.words.specs.Fields.{fieldBytes}
@@ -23,7 +23,7 @@ use Rattle.writing.proofs.Answers.{by-passing}
 use Rattle.writing.proofs.FreshBytes.{fresh-length}
 use Rattle.writing.specs.Bytes.{entryBytes, fitted, freeEntries, freeEntry, headerBytes, slotBytes}
 use Rattle.writing.specs.Table.{row17, row18, row19, row20, row21, row23, row24}
-use Rattle.writing.specs.Writing.{Change, cut, formatting, freshBytes, freshHeader, left, recording, registering, said, withCurrent}
+use Rattle.writing.specs.Writing.{Change, cut, formatting, freshBytes, freshHeader, left, recording, registering, said}
 use Rattle.writing.specs.declared.Outcome.the-variants.{Done}
 use Rattle.demands.specs.Each.{Each}
 use Rattle.demands.specs.History.{NeverBack, Typed, acceptedWrites, after, given}

@@ -3,7 +3,7 @@ use Prim.Native.Nat.{ℕ, suc, _^_, _<_, min}
 use mathlib.Core.List.{List}
 use mathlib.Core.Path.{_≡_, sym, ap, _∙_}
 use lib.ListN.{length}
-use Rattle.trace.specs.Layout.{headerOf, currentSlot, slotCount}
+use Rattle.trace.specs.Layout.{headerOf, currentSlot, slotCount, withCurrent}
 use Rattle.trace.specs.declared.Checked.the-variants.{Sound}
 use Rattle.trace.specs.declared.Header.{Header}
 use Rattle.trace.specs.declared.Slot.{Slot}
@@ -12,7 +12,7 @@ use Rattle.writing.proofs.Recorded.{recorded-current, recorded-header, recorded
 use Rattle.writing.proofs.Registered.{registered-bytes, registered-entry, registered-events, registered-found, registered-header, registered-one-each, registered-others, registered-sound, registered-size, registered-untouched, registered-in-use, registered-type}
 use Rattle.writing.proofs.Removed.{removed-events, removed-free, removed-gone, removed-header, removed-one-each, removed-others, removed-sound, removed-size, removed-untouched, removed-freed}
 use Rattle.writing.specs.Arguments.{IsSlot}
-use Rattle.writing.specs.Writing.{formatting, freshEnd, freshHeader, left, nextPointer, recording, registering, removing, withCurrent}
+use Rattle.writing.specs.Writing.{formatting, freshEnd, freshHeader, left, nextPointer, recording, registering, removing}
 use Rattle.writing.specs.declared.Format.{Format}
 use Rattle.writing.specs.declared.Object.{Object}
 use Rattle.demands.specs.Writings.{Accepted, Formatted, Recorded, Registered, Removed}

@@ -8,7 +8,7 @@ use lib.ListN.{length, getD, drop, take}
 use Rattle.rows.specs.Rows.{firstBroken}
 use Rattle.rows.specs.declared.Verdict.the-variants.{Passed}
 use Rattle.trace.specs.Check.{checkOf}
-use Rattle.trace.specs.Layout.{headerOf, bufferStart, currentAt, currentSlot, entryCount, slotAt, slotCount, entryAt, entrySize, slotSize}
+use Rattle.trace.specs.Layout.{headerOf, bufferStart, currentAt, currentSlot, entryCount, slotAt, slotCount, entryAt, entrySize, slotSize, withCurrent}
 use Rattle.trace.specs.Names.{findName, nameBytes}
 use Rattle.trace.specs.Registry.{isWanted, typeAt}
 use Rattle.trace.specs.Slots.{slotIn}
@@ -22,7 +22,7 @@ use Rattle.trace.specs.declared.Wanted.the-variants.{Free, InUse}
 use Rattle.writing.specs.Bytes.{entryBytes}
 use Rattle.writing.specs.Keeping.{OneEach, SameEvents, SameName, Outside, entered}
 use Rattle.writing.specs.Table.{lowestEntry}
-use Rattle.writing.specs.Writing.{Change, cut, freshBytes, freshEnd, freshSlot, freshSlots, nextPointer, nextSlot, withCurrent}
+use Rattle.writing.specs.Writing.{Change, cut, freshBytes, freshEnd, freshSlot, freshSlots, nextPointer, nextSlot}
 use Rattle.writing.specs.declared.Format.{Format}
 use Rattle.writing.specs.declared.Object.{Object}
 

@@ -1,13 +1,15 @@
 // The registry: a search of its entries.
 use header::geometry_of;
+use rows::above;
 use rows::both;
 use rows::either;
+use rows::least;
 use trace::Header;
 use trace::Wanted;
 use words::Order;
 ghost use mathlib.Core.Path.{_≡_};
-ghost use mathlib.Core.Bool.{_&&_, not};
-ghost use Prim.Native.Nat.{_<_, _^_};
+ghost use mathlib.Core.Bool.{_&&_, false, not};
+ghost use Prim.Native.Nat.{ℕ, _≤_, _<_, _^_};
 ghost use lib.Dec.{eqb};
 ghost use Rattle.rows.specs.Lowest.{lowest};
 ghost use Rattle.trace.specs.Layout.{entryCount};
@@ -26,14 +28,10 @@ pub fn allowed_type(t: u8) -> bool
     either(both(1 <= t, t <= 14), both(21 <= t, t <= 28))
 }
 
-// Its lowest byte tells most pointers apart, at less cost than the whole.
 fn has_pointer(dump: &[u8], at: usize, order: Order, pointer: u32) -> bool
     requires { ⌜ at < 2 ^ 40 ⌝ }
     ensures { λ r. ⌜ r ≡ eqb (pointerAt order (now (dump .entry)) at) pointer ⌝ }
 {
-    if words::low_byte(dump, at + 4, order) as u32 != pointer % 256 {
-        return false;
-    }
     words::word(dump, at + 4, order) == pointer
 }
 
@@ -74,6 +72,41 @@ fn is_wanted(dump: &[u8], at: usize, order: Order, wanted: Wanted) -> bool
     }
 }
 
+// Whether the entry at the front may be wanted. The pointer alone tells most entries apart.
+fn may_be_wanted(entry: &[u8], order: Order, wanted: Wanted) -> bool
+    ensures { λ r. ⌜ (r ≡ false → isWantedAt wanted order (now (entry .entry)) 0 ≡ false) ⌝ }
+{
+    match wanted {
+        Wanted::BadType => is_bad_type(entry, 0),
+        Wanted::Free => !in_use(entry, 0),
+        Wanted::InUse(pointer) => has_pointer(entry, 0, order, pointer),
+        Wanted::Thread(pointer) => has_pointer(entry, 0, order, pointer),
+    }
+}
+
+// How many entries, from the first on, are passed over: none is wanted, and what is read of each is a part of the dump of known length.
+fn passed_over(dump: &[u8], header: Header, wanted: Wanted) -> usize
+    ensures { λ r. ⌜ (r ≤ entryCount header) × ((k : ℕ) → k < r → isWanted wanted (now (dump .entry)) header k ≡ false) ⌝ }
+{
+    let geometry = geometry_of(header);
+    let entries = geometry.entries;
+    let size = geometry.entry_size;
+    let order = header.order;
+    let end = least(48 + entries * size, above(dump.len(), 7));
+    let mut i = 0;
+    let mut at = 48;
+    loop {
+        if end <= at {
+            break i;
+        }
+        if may_be_wanted(&dump[at..at + 8], order, wanted) {
+            break i;
+        }
+        i += 1;
+        at += size;
+    }
+}
+
 // The lowest entry that is wanted, or the number of entries where there is none.
 pub fn lowest_entry(dump: &[u8], header: Header, wanted: Wanted) -> usize
     ensures { λ r. ⌜ r ≡ lowest (isWanted wanted (now (dump .entry)) header) (entryCount header) ⌝ }
@@ -82,8 +115,8 @@ pub fn lowest_entry(dump: &[u8], header: Header, wanted: Wanted) -> usize
     let entries = geometry.entries;
     let size = geometry.entry_size;
     let order = header.order;
-    let mut i = 0;
-    let mut at = 48;
+    let mut i = passed_over(dump, header, wanted);
+    let mut at = 48 + i * size;
     loop {
         if i == entries {
             break entries;

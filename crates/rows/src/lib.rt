@@ -1,7 +1,7 @@
-// A refusal by number and place, rows checked in order, and tests with both sides worked out, so that a row is code with no branch.
+// A refusal by number and place, rows checked in order, and tests and small sums with both sides worked out, so that a row is code with no branch.
 ghost use mathlib.Core.Path.{_≡_};
 ghost use mathlib.Core.Bool.{_&&_, _||_};
-ghost use Prim.Native.Nat.{_-_};
+ghost use Prim.Native.Nat.{_-_, min};
 ghost use Rattle.rows.specs.Rows.{rowAt, afterRow};
 
 pub struct Refusal {
@@ -49,4 +49,11 @@ pub fn above(a: usize, b: usize) -> usize
     ensures { λ r. ⌜ r ≡ a - b ⌝ }
 {
     if b <= a { a - b } else { 0 }
+}
+
+// The smaller of two.
+pub fn least(a: usize, b: usize) -> usize
+    ensures { λ r. ⌜ r ≡ min a b ⌝ }
+{
+    if a < b { a } else { b }
 }

@@ -1,0 +1,18 @@
+//! The same behind calls that are not inlined, as the library's are.
+
+use super::{check, find, record, Refusal};
+
+#[inline(never)]
+pub fn check(dump: &[u8]) -> Result<usize, Refusal> {
+    check::check(dump)
+}
+
+#[inline(never)]
+pub fn find_name(dump: &[u8], pointer: u32) -> Result<Option<&[u8]>, Refusal> {
+    find::find_name(dump, pointer)
+}
+
+#[inline(never)]
+pub fn record(buffer: &mut [u8], words: &[u32; 8]) -> Result<usize, Refusal> {
+    record::record(buffer, words)
+}
