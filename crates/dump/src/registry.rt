@@ -84,17 +84,18 @@ fn may_be_wanted(entry: &[u8], order: Order, wanted: Wanted) -> bool
     }
 }
 
-// How many entries, from the first on, are passed over: none is wanted, and what is read of each is a part of the dump of known length.
-fn passed_over(dump: &[u8], header: Header, wanted: Wanted) -> usize
-    ensures { λ r. ⌜ (r ≤ entryCount header) × ((k : ℕ) → k < r → isWanted wanted (now (dump .entry)) header k ≡ false) ⌝ }
+// Where a search stops that passes over entries, from one on: none of those is wanted, and what is read of each is a part of the dump of known length.
+fn passed_over(dump: &[u8], header: Header, wanted: Wanted, from: usize) -> usize
+    requires { ⌜ from ≤ entryCount header ⌝ }
+    ensures { λ r. ⌜ (from ≤ r) × (r ≤ entryCount header) × ((k : ℕ) → k < r → from ≤ k → isWanted wanted (now (dump .entry)) header k ≡ false) ⌝ }
 {
     let geometry = geometry_of(header);
     let entries = geometry.entries;
     let size = geometry.entry_size;
     let order = header.order;
     let end = least(48 + entries * size, above(dump.len(), 7));
-    let mut i = 0;
-    let mut at = 48;
+    let mut i = from;
+    let mut at = 48 + from * size;
     loop {
         if end <= at {
             break i;
@@ -115,16 +116,15 @@ pub fn lowest_entry(dump: &[u8], header: Header, wanted: Wanted) -> usize
     let entries = geometry.entries;
     let size = geometry.entry_size;
     let order = header.order;
-    let mut i = passed_over(dump, header, wanted);
-    let mut at = 48 + i * size;
+    let mut i = 0;
     loop {
+        i = passed_over(dump, header, wanted, i);
         if i == entries {
             break entries;
         }
-        if is_wanted(dump, at, order, wanted) {
+        if is_wanted(dump, 48 + i * size, order, wanted) {
             break i;
         }
         i += 1;
-        at += size;
     }
 }

@@ -1,7 +1,7 @@
 -- `words::in_order` meets its contract, by the case of the order.
 use mathlib.Core.Path.{sym}
 use native.Mathlib.Omega.{arith}
-use Rattle.words.specs.Words.{lowestFirst, numberBytes, split}
+use Rattle.words.specs.Words.{joined, lowestFirst, numberBytes, split}
 use Rattle.words.proofs.Laws.{joined-split}
 use borrow.Author.Needs.{needs}
 use Rattle.words.proofs.in_order.Statement.{statement}
@@ -29,8 +29,8 @@ enum-told-2 : tie.Need-enum-told-2
 enum-told-2 c = search needs
 
 returns : tie.Need-returns
-unfolding numberBytes lowestFirst split
-returns c = rw (c .before .enum-told .given .1) (c .lowest-first .ensures)
+unfolding numberBytes lowestFirst split joined
+returns c = rw (c .before .enum-told .given .1) (omega (arith, c .lowest-first .ensures))
 
 returns-2 : tie.Need-returns-2
 unfolding numberBytes lowestFirst

@@ -1,95 +1,95 @@
--- `dump::registry::lowest_entry` meets its contract. The loop's invariant: `at` is where entry `i` starts, and no entry below `i` is wanted, those that were passed over among them.
-use mathlib.Core.Path.{_≡_, _∙_, sym}
-use Rattle.header.proofs.Steps.{step-more, entries-are, entries-below, entry-below}
+-- `dump::registry::lowest_entry` meets its contract. The loop's invariant: no entry below `i` is wanted.
 use Prim.Native.Nat.{ℕ, _+_, _*_, _-_, _<_, _≤_, _^_}
 use mathlib.Core.Bool.{false}
+use mathlib.Core.Path.{_≡_, _∙_, sym}
+use native.Mathlib.Decide.{decLt}
 use native.Mathlib.Omega.{arith}
-use borrow.Author.Count.{below-more}
+use borrow.Author.Count.{below-none, below-more}
 use borrow.Author.Needs.{needs}
+use Rattle.header.proofs.Steps.{entries-are, entry-below}
 use Rattle.rows.proofs.Lowest.{lowest-none, lowest-at}
 use Rattle.trace.specs.Layout.{entryCount}
-use Rattle.trace.specs.Registry.{isWantedAt, isWanted}
+use Rattle.trace.specs.Registry.{isWanted}
 use Rattle.dump.proofs.registry.lowest_entry.Statement.{statement}
 use Rattle.dump.proofs.registry.lowest_entry.Tie as tie
 
 abbrev Inv-loop : tie.InvT-loop
-Inv-loop dump wanted entries size order i₀ at₀ i at =
-    (i ≤ entries) × (at ≡ 48 + i * size) × ((k : ℕ) → k < i → isWantedAt wanted order dump (48 + k * size) ≡ false)
+Inv-loop dump header wanted entries size order i₀ i =
+    (i ≤ entryCount header) × ((k : ℕ) → k < i → isWanted wanted dump header k ≡ false)
 
 abbrev μ-loop : tie.MeasureT-loop
-μ-loop dump wanted entries size order i₀ at₀ i at = entries - i
+μ-loop dump header wanted entries size order i₀ i = entryCount header - i
 
 geometry-of-requires : tie.Need-geometry-of-requires Inv-loop μ-loop
 geometry-of-requires c κs = search needs
 
-passed-over-requires : tie.Need-passed-over-requires Inv-loop μ-loop
-passed-over-requires c κs = search needs
-
--- those that are passed over are entries, and end below two to the 33
-over : (c : tie.After-passed-over Inv-loop μ-loop)
-    → (c .passed-over .result ≤ c .before .geometry-of .result .entries) × (48 + c .passed-over .result * c .before .geometry-of .result .«entry_size» < 2 ^ 33)
-over c =
-    let h = c .before .before .before .args .header in
-    let g = c .before .geometry-of in
-    let most : c .passed-over .result ≤ g .result .entries = rw (entries-are h (g .result) (g .ensures)) (c .passed-over .ensures .0) in
-    (most, entries-below h (g .result) (g .ensures) (c .passed-over .result) most)
-
-mul-at : tie.Need-mul-at Inv-loop μ-loop
-mul-at c = omega (arith, over c)
-
-add-at : tie.Need-add-at Inv-loop μ-loop
-add-at c = omega (arith, over c)
+all : (c : tie.After-geometry-of Inv-loop μ-loop) → c .geometry-of .result .entries ≡ entryCount (c .before .before .args .header)
+all c = entries-are (c .before .before .args .header) (c .geometry-of .result) (c .geometry-of .ensures)
 
 loop-holds : tie.Need-loop-holds Inv-loop μ-loop
-loop-holds c = (over c .0, omega arith, λ k l. rw (c .before .geometry-of .ensures) (c .passed-over .ensures .1 k l))
+loop-holds c = (omega arith, below-none _)
 
--- entry `i` ends below two to the 33
-room : (c : tie.Else1 Inv-loop μ-loop) → c .before .loop .at + c .before .before .before .geometry-of .result .«entry_size» < 2 ^ 33
-room c =
-    let g = c .before .before .before .geometry-of in
-    omega (arith, entry-below (c .before .before .before .before .before .args .header) (g .result) (g .ensures) (c .before .loop .i) (omega arith))
+passed-over-requires : tie.Need-passed-over-requires Inv-loop μ-loop
+passed-over-requires c κs = c .loop .inv .0
 
--- no entry below `i` is wanted, as the definition says it
-passed : (c : tie.At-loop Inv-loop μ-loop) (k : ℕ) → k < c .loop .i
+-- no entry up to where the quick pass stopped is wanted
+missed : (c : tie.After-passed-over Inv-loop μ-loop)
     → let a = c .before .before .before .before .args in
-    isWanted (a .wanted) (a .dump .now) (a .header) k ≡ false
-passed c k l = rw (c .before .before .geometry-of .ensures) at (c .loop .inv .2 k l)
+    (k : ℕ) → k < c .passed-over .result → isWanted (a .wanted) (a .dump .now) (a .header) k ≡ false
+missed c k l = by (decLt k (c .before .loop .i))
+  where
+    by : Dec (k < c .before .loop .i)
+        → let a = c .before .before .before .before .args in
+        isWanted (a .wanted) (a .dump .now) (a .header) k ≡ false
+    by (yes early) = c .before .loop .inv .1 k early
+    by (no late) = c .passed-over .ensures .2 k l (omega arith)
+
+-- where that is not the end, it is an entry, which ends below two to the 33
+below : (c : tie.Else1 Inv-loop μ-loop) → c .before .passed-over .result < c .before .before .before .geometry-of .result .entries
+below c = omega (arith, all (c .before .before .before), c .before .passed-over .ensures .1)
+
+room : (c : tie.Else1 Inv-loop μ-loop)
+    → let g = c .before .before .before .geometry-of .result in
+    48 + c .before .passed-over .result * g .«entry_size» + g .«entry_size» < 2 ^ 33
+room c =
+    let g = c .before .before .before in
+    entry-below (g .before .before .args .header) (g .geometry-of .result) (g .geometry-of .ensures) (c .before .passed-over .result) (below c)
+
+mul-is-wanted : tie.Need-mul-is-wanted Inv-loop μ-loop
+mul-is-wanted c = omega (arith, room c)
+
+add-is-wanted : tie.Need-add-is-wanted Inv-loop μ-loop
+add-is-wanted c = omega (arith, room c)
 
 is-wanted-requires : tie.Need-is-wanted-requires Inv-loop μ-loop
 is-wanted-requires c κs = omega (arith, room c)
 
 add-i : tie.Need-add-i Inv-loop μ-loop
-add-i c = omega arith
-
-add-at-2 : tie.Need-add-at-2 Inv-loop μ-loop
-add-at-2 c = omega (arith, room (c .before .before))
+add-i c = omega (arith, below (c .before .before))
 
 loop-less : tie.Need-loop-less Inv-loop μ-loop
-loop-less c = omega arith
+loop-less c = omega (arith, below (c .before .before), all (c .before .before .before .before .before), c .before .before .before .passed-over .ensures .0)
 
 loop-again : tie.Need-loop-again Inv-loop μ-loop
 loop-again c =
-    let at = c .before .before .before in
-    let g = at .before .before .geometry-of .result in
+    let stop = c .before .before .before in
     let miss = sym (c .before .is-wanted .ensures) ∙ c .if2 .left in
-    (omega arith, omega (arith, step-more (at .loop .i) (g .«entry_size»)), below-more _ _ (at .loop .inv .2) (rw (at .loop .inv .1) at miss))
+    (omega (arith, below (c .before .before), all (stop .before .before)), below-more _ _ (missed stop) (rw (stop .before .before .geometry-of .ensures) at miss))
 
 returns : tie.Need-returns Inv-loop μ-loop
 returns c =
-    let at = c .before in
-    let a = at .before .before .before .before .args in
-    let g = at .before .before .geometry-of in
-    let all = entries-are (a .header) (g .result) (g .ensures) in
-    all ∙ lowest-none (isWanted (a .wanted) (a .dump .now) (a .header)) (entryCount (a .header)) (λ k l. passed at k (omega arith))
+    let stop = c .before in
+    let a = stop .before .before .before .before .args in
+    all (stop .before .before)
+    ∙ lowest-none (isWanted (a .wanted) (a .dump .now) (a .header)) (entryCount (a .header)) (λ k l. missed stop k (omega (arith, all (stop .before .before))))
 
 returns-2 : tie.Need-returns-2 Inv-loop μ-loop
 returns-2 c =
-    let at = c .before .before .before in
-    let a = at .before .before .before .before .args in
-    let g = at .before .before .geometry-of in
-    let all = entries-are (a .header) (g .result) (g .ensures) in
-    lowest-at (isWanted (a .wanted) (a .dump .now) (a .header)) (entryCount (a .header)) (at .loop .i) (omega arith) (passed at)
-    (rw (at .loop .inv .1, g .ensures) at (sym (c .before .is-wanted .ensures) ∙ c .if2 .taken))
+    let stop = c .before .before .before in
+    let a = stop .before .before .before .before .args in
+    let hit = sym (c .before .is-wanted .ensures) ∙ c .if2 .taken in
+    lowest-at (isWanted (a .wanted) (a .dump .now) (a .header)) (entryCount (a .header)) (stop .passed-over .result)
+    (omega (arith, below (c .before .before), all (stop .before .before))) (missed stop) (rw (stop .before .before .geometry-of .ensures) at hit)
 
 pub lowest-entry-spec : {M : Type 1} → statement M
 lowest-entry-spec =
@@ -98,13 +98,12 @@ lowest-entry-spec =
     Inv-loop
     μ-loop
     geometry-of-requires
-    passed-over-requires
-    mul-at
-    add-at
     loop-holds
+    passed-over-requires
+    mul-is-wanted
+    add-is-wanted
     is-wanted-requires
     add-i
-    add-at-2
     loop-less
     loop-again
     returns
