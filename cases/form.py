@@ -61,7 +61,7 @@ class Cases:
 
     def add(self, title, buffer, calls):
         """Puts in a case. A call is its letter, what is given, and the reply without its last line's end."""
-        assert len(title) < 200 and len(buffer) <= MOST_BYTES and len(calls) <= MOST_CALLS
+        assert 0 < len(title) < 200 and len(buffer) <= MOST_BYTES and len(calls) <= MOST_CALLS
         self.count += 1
         self.data += struct.pack("B", len(title)) + title.encode() + start(buffer)
         self.printed.append(f"{title}: {digest(buffer)}\n")

@@ -3,11 +3,12 @@ use libc::STDOUT_FILENO;
 use rows::Refusal;
 use words::Order;
 ghost use mathlib.Core.Path.{_≡_};
-ghost use Prim.Native.Nat.{_+_, _*_, _≤_};
-ghost use lib.ListN.{length};
+ghost use mathlib.Core.Bool.{cond};
+ghost use Prim.Native.Nat.{_+_, _*_};
 ghost use Rattle.words.specs.Words.{wordAt};
 ghost use Rattle.words.specs.declared.Order.the-variants.{Little};
 ghost use Rattle.io.specs.Counts.{Counts};
+ghost use Rattle.console.specs.Changed.{changedFrom, isNoDot};
 
 // A space and a number.
 pub fn print_space(n: u64) {
@@ -56,23 +57,21 @@ pub fn number_at(bytes: &[u8], low: usize, high: usize) -> u64
 }
 
 fn one_if_changed(b: u8) -> usize
-    ensures { λ r. ⌜ r ≤ 1 ⌝ }
+    ensures { λ r. ⌜ r ≡ cond (isNoDot b) 1 0 ⌝ }
 {
-    if b == b'.' {
-        return 0;
-    }
-    1
+    if b == b'.' { 0 } else { 1 }
 }
 
 // How many bytes from a place on are not a dot.
 pub fn count_changed(bytes: &[u8], from: usize) -> usize
-    ensures { λ r. ⌜ r ≤ length (now (bytes .entry)) ⌝ }
+    ensures { λ r. ⌜ r ≡ changedFrom (now (bytes .entry)) from ⌝ }
 {
+    let size = rows::above(bytes.len(), from);
     let mut changed = 0;
-    let mut i = from;
-    while i < bytes.len() {
-        changed += one_if_changed(bytes[i]);
-        i += 1;
+    let mut k = 0;
+    while k < size {
+        changed += one_if_changed(words::byte(bytes, from, k));
+        k += 1;
     }
     changed
 }

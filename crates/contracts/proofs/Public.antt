@@ -104,7 +104,7 @@ library = record {
     «found_part» = record { asks-nothing = λ κs a. tt; one-answer = λ κs a p q. (one-part (p .allowed) (q .allowed), refl) };
     «name_part» = record { asks-nothing = λ κs a. tt; one-answer = λ κs a p q. (one-part (p .allowed) (q .allowed), refl) };
     «name_of» = equation (λ κs a v w. refl);
-    «name_length» = equation (λ κs a v w. refl);
+    «length_to_zero» = equation (λ κs a v w. refl);
   };
   walk = record {
     event = equation (λ κs a v w. refl);
@@ -128,6 +128,11 @@ library = record {
   };
   formatter = record {
     format = leaves (λ κs a x e p. p) (λ κs a v w e i. (e i, v .1));
+  };
+  console = record {
+    «word_at» = equation (λ κs a v w. refl);
+    «number_at» = equation (λ κs a v w. refl);
+    «count_changed» = equation (λ κs a v w. refl);
   };
 }
 

@@ -7,27 +7,35 @@ use denote.Ref.{now}
 use lib.ListN.{length, length-drop}
 use Rattle.demands.proofs.Demands.{demands}
 use Rattle.demands.specs.Demands.{Shows}
-use Rattle.demands.specs.History.{Call, Write, acceptedWrites, after, changeBy, ifAccepted, lastOf}
+use Rattle.demands.specs.History.{Call, DoesNotFormat, NoneFormats, Write, acceptedWrites, after, ifAccepted, lastOf, leftBy, writesBy}
 use Rattle.demands.specs.Shown.{ReadingAccepted}
 use Rattle.events.specs.Listing.{Gave, listingRows, listingText}
 use Rattle.trace.specs.Layout.{headerOf}
 use Rattle.writing.specs.Writing.{formatting, left, recording, said}
 use Rattle.writing.specs.declared.Outcome.{Outcome}
-use Rattle.contracts.specs.Runs.{Answered, Lists, Ran, Runs, next, none, recorded, registered, removed}
+use Rattle.contracts.specs.Runs.{Answered, Lists, Ran, Runs, lent, next, none, recorded, registered, removed, unformatted}
 use Rattle.contracts.proofs.Calls.{calls}
 
-answered : {s t : List ℕ} {c : Call} {o : Outcome} → Answered s c o t → (o ≡ said (changeBy recording c s)) × (t ≡ left (changeBy recording c s) s)
-answered (recorded κs a p here slot) = rw (← here, ← slot) (calls .«record» κs a p)
-answered (registered κs a p here object name) = rw (← here, ← object, ← name) (calls .register κs a p)
-answered (removed κs a p here pointer) = rw (← here, ← pointer) (calls .remove κs a p)
+answered : {s t : List ℕ} {c : Call} {ws : List Write} → Answered s c ws t → (ws ≡ writesBy recording c s) × (t ≡ leftBy recording c s) × DoesNotFormat c s
+answered (recorded {w = w} κs a p here slot) =
+    let did = calls .«record» κs a p in
+    rw (← here, ← slot) (ap (λ (o : Outcome). ifAccepted o w) (did .0), did .1, tt)
+answered (registered κs a p here object name) = rw (← here, ← object, ← name) (refl, calls .register κs a p .1, tt)
+answered (removed κs a p here pointer) = rw (← here, ← pointer) (refl, calls .remove κs a p .1, tt)
+answered (unformatted {fault = fault} κs a p here f refused) =
+    let did = calls .format κs a p in
+    rw (← here, ← f) (refl, did .1, (fault, sym (did .0) ∙ refused))
+answered (lent one) = (refl, refl, tt)
 
-ran : {s u : List ℕ} {cs : List Call} {ws : List Write} → Ran s cs ws u → (ws ≡ acceptedWrites recording cs s) × (u ≡ after recording cs s)
-ran none = (refl, refl)
-ran (next {c = c} {cs = cs} one more) =
+ran : {s u : List ℕ} {cs : List Call} {ws : List Write} → Ran s cs ws u
+    → (ws ≡ acceptedWrites recording cs s) × (u ≡ after recording cs s) × NoneFormats recording cs s
+ran none = (refl, refl, tt)
+ran (next {cs = cs} one more) =
     let here = answered one in
     let rest = ran more in (
-      ap₂ (λ (o : Outcome) (ws : List Write). ifAccepted c o ++ ws) (here .0) (rest .0 ∙ ap (acceptedWrites recording cs) (here .1)),
+      ap₂ (λ (ws more : List Write). ws ++ more) (here .0) (rest .0 ∙ ap (acceptedWrites recording cs) (here .1)),
       rest .1 ∙ ap (after recording cs) (here .1),
+      (here .2, subst (NoneFormats recording cs) (here .1) (rest .2)),
     )
 
 shown-lists : (mask k n : ℕ) (ws : List Write) (t : List ℕ) → length ws ≡ k → Shows mask k n ws t → Lists (lastOf n ws) t
@@ -51,4 +59,4 @@ runs κs a p k n cs ws t done word run typed many = (shows, shown-lists (a .1 .0
     shows : Shows (a .1 .0 .mask) k n ws t
     shows =
         subst₂ (λ (ws : List Write) (t : List ℕ). Shows (a .1 .0 .mask) k n ws t) (sym writes) (sym last)
-        (demands .third k n (a .1 .0) (now (a .0)) cs word (sym (made .0) ∙ done) typed (ap length (sym writes) ∙ many))
+        (demands .third k n (a .1 .0) (now (a .0)) cs word (sym (made .0) ∙ done) typed (subst (NoneFormats recording cs) (made .1) (ran run .2)) (ap length (sym writes) ∙ many))

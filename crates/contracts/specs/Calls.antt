@@ -15,7 +15,7 @@ use Rattle.recorder.proofs as recorder
 use Rattle.registrar.proofs as registrar
 use Rattle.trace.specs.Check.{checkOf}
 use Rattle.trace.specs.Layout.{headerOf}
-use Rattle.trace.specs.Names.{findName, nameFound, nameSize, nameStart}
+use Rattle.trace.specs.Names.{findName, nameFound, nameLength, nameStart}
 use Rattle.trace.specs.Parts.{PartOf}
 use Rattle.walk.proofs as walk
 use Rattle.writing.specs.Writing.{Change, formatting, left, recording, registering, removing, said}
@@ -40,10 +40,10 @@ pub record Calls : Type 0 where
   -- found_part(dump, found), name_part(dump, name): that part of the dump and not a copy, empty where there is no name, and in a refusal
   pub «found_part» : Allows finder.«found_part».ended finder.«found_part».Reads.Learnt (λ κs a x last.
       let name = nameFound (a .1 .0) in
-      PartOf (a .0) x (nameStart name) (nameSize name))
+      PartOf (a .0) x (nameStart name) (nameLength name))
   pub «name_part» : Allows finder.«name_part».ended finder.«name_part».Reads.Learnt (λ κs a x last.
       let name = a .1 .0 in
-      PartOf (a .0) x (nameStart name) (nameSize name))
+      PartOf (a .0) x (nameStart name) (nameLength name))
   -- event(dump, position)
   pub event : Allows walk.event.ended walk.event.Reads.Learnt (λ κs a x last.
       let s = now (a .0) in let position = a .1 .0 in

@@ -1,24 +1,29 @@
--- The calls for C: each asks nothing and has one answer; a refusal's number is never 0, so that 0 says that a call was accepted; and names lie within the dump.
+-- The calls for C: each asks nothing and has one answer, whose numbers are those that the library's answer tells; 0 says that a call was accepted; names lie within the dump.
 use Prim.Native.Nat.{ℕ, _+_, _≤_}
 use mathlib.Core.List.{List}
 use mathlib.Core.Path.{_≡_}
+use denote.Ref.{now}
 use lib.ListN.{length}
+use Rattle.demands.specs.Refusals.{Refuses, RefusesAndKeeps}
 use Rattle.events.specs.Events.{eventOf}
 use Rattle.events.specs.Listing.{lineAt, lineRows, listingRows, listingText}
 use Rattle.events.specs.declared.Reading.{Reading}
 use Rattle.lepsaino_c.proofs as calls
-use Rattle.lepsaino_c.specs.Answers.{GaveNumbers, checkAnswer, eventAnswer, nameAnswer, outcomeAnswer}
+use Rattle.lepsaino_c.specs.Answers.{GaveNumbers, answerOf, checkAnswer, checkAnswerOf, eventAnswer, eventAnswerOf, formatGiven, nameAnswer, nameAnswerOf, orderGiven, outcomeAnswer}
 use Rattle.lepsaino_c.specs.declared.answers.Answer.{Answer}
-use Rattle.rows.specs.Rows.{Row, firstBroken}
-use Rattle.rows.specs.declared.Verdict.the-variants.{Passed}
-use Rattle.trace.specs.Check.{checkOf}
+use Rattle.rows.specs.Rows.{Accepted, Row}
+use Rattle.rows.specs.Told.{Told, toldRefusal}
+use Rattle.rows.specs.declared.Refusal.{Refusal}
+use Rattle.trace.specs.Check.{checkOf, orderNumber}
 use Rattle.trace.specs.Layout.{headerOf}
 use Rattle.trace.specs.Names.{findName}
 use Rattle.trace.specs.Table.{dumpRows, eventRows, registryRows}
 use Rattle.trace.specs.declared.Slot.{Slot}
+use Rattle.words.specs.declared.Order.{Order}
 use Rattle.writing.specs.Writing.{formatting, recording, registering, removing, said}
 use Rattle.writing.specs.declared.Format.{Format}
 use Rattle.writing.specs.declared.Object.{Object}
+use Rattle.contracts.specs.Calls.{Allows}
 use Rattle.contracts.specs.Settled.{Settled}
 
 pub record Interface : Type 0 where
@@ -33,8 +38,78 @@ pub record Interface : Type 0 where
   pub «lepsaino_register» : Settled calls.«lepsaino_register».ended calls.«lepsaino_register».Reads.Asked calls.«lepsaino_register».Reads.Learnt
   pub «lepsaino_remove» : Settled calls.«lepsaino_remove».ended calls.«lepsaino_remove».Reads.Asked calls.«lepsaino_remove».Reads.Learnt
 
-abbrev Accepted : List Row → Type 0
-Accepted rows = firstBroken rows ≡ Passed
+-- a struct that is made of what was told: a refusal exactly by the first broken row of the call's order
+abbrev pub Tells : {A : Type 0} → (Told → A) → List Row → A → Type 0
+Tells struct rows x = (told : Told) × (x ≡ struct told) × Refuses rows told
+
+-- and then every lent byte is as before
+abbrev pub TellsAndKeeps : List Row → List ℕ → List ℕ → Answer → Type 0
+TellsAndKeeps rows old new x = (told : Told) × (x ≡ answerOf told) × RefusesAndKeeps rows old new told
+
+-- whatever answer the contract of a call for C allows
+pub record InterfaceRefuses : Type 0 where
+  pub check : Allows calls.«lepsaino_check».ended calls.«lepsaino_check».Reads.Learnt (λ κs a x last.
+      let s = now (a .0) in
+      Tells checkAnswerOf (dumpRows s (headerOf s)) x)
+  pub event : Allows calls.«lepsaino_event».ended calls.«lepsaino_event».Reads.Learnt (λ κs a x last.
+      let s = now (a .0) in let position = a .1 .0 in
+      Tells eventAnswerOf (eventRows s (headerOf s) position) x)
+  pub «find_name» : Allows calls.«lepsaino_find_name».ended calls.«lepsaino_find_name».Reads.Learnt (λ κs a x last.
+      let s = now (a .0) in
+      Tells nameAnswerOf (registryRows s (headerOf s)) x)
+  pub line : Allows calls.«lepsaino_line».ended calls.«lepsaino_line».Reads.Learnt (λ κs a x last.
+      let s = now (a .0) in let reading = a .1 .0 in let position = a .1 .1 .0 in let old = now (a .1 .1 .1 .0) in let new = last .1 .1 .1 .0 in
+      TellsAndKeeps (lineRows s (headerOf s) reading position (length old)) old new x)
+  pub listing : Allows calls.«lepsaino_listing».ended calls.«lepsaino_listing».Reads.Learnt (λ κs a x last.
+      let s = now (a .0) in let reading = a .1 .0 in let old = now (a .1 .1 .0) in let new = last .1 .1 .0 in
+      TellsAndKeeps (listingRows s (headerOf s) reading (length old)) old new x)
+  pub format : Allows calls.«lepsaino_format».ended calls.«lepsaino_format».Reads.Learnt (λ κs a x last.
+      let old = now (a .0) in let new = last .0 in
+      TellsAndKeeps (formatting (formatGiven (a .1 .0)) old .rows) old new x)
+  pub «record» : Allows calls.«lepsaino_record».ended calls.«lepsaino_record».Reads.Learnt (λ κs a x last.
+      let old = now (a .0) in let slot = a .1 .0 in let new = last .0 in
+      TellsAndKeeps (recording slot old .rows) old new x)
+  pub register : Allows calls.«lepsaino_register».ended calls.«lepsaino_register».Reads.Learnt (λ κs a x last.
+      let old = now (a .0) in let object = a .1 .0 in let name = now (a .1 .1 .0) in let new = last .0 in
+      TellsAndKeeps (registering object name old .rows) old new x)
+  pub remove : Allows calls.«lepsaino_remove».ended calls.«lepsaino_remove».Reads.Learnt (λ κs a x last.
+      let old = now (a .0) in let pointer = a .1 .0 in let new = last .0 in
+      TellsAndKeeps (removing pointer old .rows) old new x)
+
+-- what the structs are in a refusal: the number, the place, and 0 for all else; and a byte order that was told is given back as that order
+pub record Structs : Type 0 where
+  pub answer : (f : Refusal) → answerOf (toldRefusal f) ≡ record { refusal = f .number; place = f .place; value = 0 }
+  pub name : (f : Refusal) → nameAnswerOf (toldRefusal f) ≡ record { refusal = f .number; place = f .place; named = 0; at = 0; length = 0 }
+  pub check : (f : Refusal)
+      → checkAnswerOf (toldRefusal f)
+      ≡ record {
+        refusal = f .number;
+        place = f .place;
+        big = 0;
+        id = 0;
+        mask = 0;
+        base = 0;
+        «registry_start» = 0;
+        «name_size» = 0;
+        «registry_end» = 0;
+        «buffer_start» = 0;
+        «buffer_end» = 0;
+        current = 0;
+        events = 0;
+      }
+  pub event : (f : Refusal)
+      → eventAnswerOf (toldRefusal f)
+      ≡ record {
+        refusal = f .number;
+        place = f .place;
+        slot = record { pointer = 0; field = 0; id = 0; stamp = 0; first = 0; second = 0; third = 0; fourth = 0 };
+        ticks = 0;
+        context = 0;
+        named = 0;
+        «name_at» = 0;
+        «name_length» = 0;
+      }
+  pub order : (o : Order) → orderGiven (orderNumber o) ≡ o
 
 -- where the number handed to a C caller is 0, no row of the call's order is broken
 pub record ZeroAccepts : Type 0 where

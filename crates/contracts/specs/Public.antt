@@ -4,6 +4,7 @@
 use Prim.Native.Nat.{ℕ}
 use mathlib.Core.List.{List}
 use denote.Ref.{RefT}
+use Rattle.console.proofs as console
 use Rattle.doubles.proofs as doubles
 use Rattle.dump.proofs as dump
 use Rattle.finder.proofs as finder
@@ -85,7 +86,7 @@ pub record Finder : Type 0 where
   pub «found_part» : SettledAs finder.«found_part».ended finder.«found_part».Reads.Asked finder.«found_part».Reads.Learnt (λ κs. unnamed)
   pub «name_part» : SettledAs finder.«name_part».ended finder.«name_part».Reads.Asked finder.«name_part».Reads.Learnt (λ κs. unnamed)
   pub «name_of» : Settled finder.«name_of».ended finder.«name_of».Reads.Asked finder.«name_of».Reads.Learnt
-  pub «name_length» : Settled finder.«name_length».ended finder.«name_length».Reads.Asked finder.«name_length».Reads.Learnt
+  pub «length_to_zero» : Settled finder.«length_to_zero».ended finder.«length_to_zero».Reads.Asked finder.«length_to_zero».Reads.Learnt
 
 pub record Walk : Type 0 where
   pub event : Settled walk.event.ended walk.event.Reads.Asked walk.event.Reads.Learnt
@@ -110,7 +111,13 @@ pub record Registrar : Type 0 where
 pub record Formatter : Type 0 where
   pub format : Settled formatter.format.ended formatter.format.Reads.Asked formatter.format.Reads.Learnt
 
--- every crate with public functions, but for the programs and for `console`, which they share
+-- what the programs share, but for the functions that print or read a file: what a program prints is tested against stored text
+pub record Console : Type 0 where
+  pub «word_at» : Settled console.«word_at».ended console.«word_at».Reads.Asked console.«word_at».Reads.Learnt
+  pub «number_at» : Settled console.«number_at».ended console.«number_at».Reads.Asked console.«number_at».Reads.Learnt
+  pub «count_changed» : Settled console.«count_changed».ended console.«count_changed».Reads.Asked console.«count_changed».Reads.Learnt
+
+-- every crate with public functions
 pub record Library : Type 0 where
   pub words : Words
   pub rows : Rows
@@ -127,6 +134,7 @@ pub record Library : Type 0 where
   pub recorder : Recorder
   pub registrar : Registrar
   pub formatter : Formatter
+  pub console : Console
 
 -- the one exception: the contract of a part that is handed back allows every ghost name
 abbrev pub NameOpen : Type 0

@@ -5,39 +5,70 @@ use mathlib.Core.Path.{_≡_}
 use denote.Ref.{now}
 use lib.ListN.{drop, length}
 use Rattle.demands.specs.Demands.{Shows}
-use Rattle.demands.specs.History.{Call, Typed, Write, given, ifAccepted, lastOf, register, remove, write}
+use Rattle.demands.specs.History.{Call, Read, Typed, Write, check, event, find, format, given, ifAccepted, lastOf, line, list, read, register, remove, write}
 use Rattle.demands.specs.Each.{Each}
 use Rattle.demands.specs.Shown.{ReadingAccepted, linesOf}
+use Rattle.dump.proofs as dump
 use Rattle.events.specs.declared.Listed.the-variants.{Written}
+use Rattle.events.specs.declared.Reading.{Reading}
+use Rattle.finder.proofs as finder
 use Rattle.formatter.proofs as formatter
 use Rattle.listing.proofs as listing
 use Rattle.recorder.proofs as recorder
 use Rattle.registrar.proofs as registrar
+use Rattle.rows.specs.declared.Refusal.{Refusal}
+use Rattle.walk.proofs as walk
+use Rattle.writing.specs.declared.Format.{Format}
 use Rattle.writing.specs.declared.Object.{Object}
-use Rattle.writing.specs.declared.Outcome.{Outcome}
-use Rattle.writing.specs.declared.Outcome.the-variants.{Done}
+use Rattle.writing.specs.declared.Outcome.the-variants.{Done, Refused}
 use Rattle.contracts.specs.Settled.{Answer, Arguments, Lives}
 
--- a call on a buffer s, an outcome that its contract allows, and the buffer that it leaves
-pub data Answered (s : List ℕ) : Call → Outcome → List ℕ → Type 0 where
+-- a call that reads a buffer s, and an answer that its contract allows
+pub data ReadAnswered (s : List ℕ) : Read → Type 0 where
+  -- check(dump)
+  checked : (κs : Lives dump.check.ended) (a : Arguments dump.check.ended κs) (p : Answer dump.check.ended dump.check.Reads.Learnt κs a)
+      → now (a .0) ≡ s → ReadAnswered s check
+  -- find_name(dump, pointer)
+  found : {pointer : ℕ} (κs : Lives finder.«find_name».ended) (a : Arguments finder.«find_name».ended κs)
+      (p : Answer finder.«find_name».ended finder.«find_name».Reads.Learnt κs a)
+      → now (a .0) ≡ s → a .1 .0 ≡ pointer → ReadAnswered s (find pointer)
+  -- event(dump, position)
+  shown : {position : ℕ} (κs : Lives walk.event.ended) (a : Arguments walk.event.ended κs) (p : Answer walk.event.ended walk.event.Reads.Learnt κs a)
+      → now (a .0) ≡ s → a .1 .0 ≡ position → ReadAnswered s (event position)
+  -- line(dump, reading, position, out)
+  printed : {reading : Reading} {position : ℕ} {out : List ℕ} (κs : Lives listing.line.ended) (a : Arguments listing.line.ended κs)
+      (p : Answer listing.line.ended listing.line.Reads.Learnt κs a)
+      → now (a .0) ≡ s → a .1 .0 ≡ reading → a .1 .1 .0 ≡ position → now (a .1 .1 .1 .0) ≡ out → ReadAnswered s (line reading position out)
+  -- listing(dump, reading, out)
+  listed : {reading : Reading} {out : List ℕ} (κs : Lives listing.listing.ended) (a : Arguments listing.listing.ended κs)
+      (p : Answer listing.listing.ended listing.listing.Reads.Learnt κs a)
+      → now (a .0) ≡ s → a .1 .0 ≡ reading → now (a .1 .1 .0) ≡ out → ReadAnswered s (list reading out)
+
+-- a call on a buffer s and an answer that its contract allows, the writes accepted by it, and the buffer that it leaves
+pub data Answered (s : List ℕ) : Call → List Write → List ℕ → Type 0 where
   -- record(buffer, slot)
   recorded : {w : Write} (κs : Lives recorder.«record».ended) (a : Arguments recorder.«record».ended κs)
       (p : Answer recorder.«record».ended recorder.«record».Reads.Learnt κs a)
-      → now (a .0) ≡ s → a .1 .0 ≡ given w → Answered s (write w) (p .result) (p .left .0)
+      → now (a .0) ≡ s → a .1 .0 ≡ given w → Answered s (write w) (ifAccepted (p .result) w) (p .left .0)
   -- register(buffer, object, name)
   registered : {object : Object} {name : List ℕ} (κs : Lives registrar.register.ended) (a : Arguments registrar.register.ended κs)
       (p : Answer registrar.register.ended registrar.register.Reads.Learnt κs a)
-      → now (a .0) ≡ s → a .1 .0 ≡ object → now (a .1 .1 .0) ≡ name → Answered s (register object name) (p .result) (p .left .0)
+      → now (a .0) ≡ s → a .1 .0 ≡ object → now (a .1 .1 .0) ≡ name → Answered s (register object name) [] (p .left .0)
   -- remove(buffer, pointer)
   removed : {pointer : ℕ} (κs : Lives registrar.remove.ended) (a : Arguments registrar.remove.ended κs)
       (p : Answer registrar.remove.ended registrar.remove.Reads.Learnt κs a)
-      → now (a .0) ≡ s → a .1 .0 ≡ pointer → Answered s (remove pointer) (p .result) (p .left .0)
+      → now (a .0) ≡ s → a .1 .0 ≡ pointer → Answered s (remove pointer) [] (p .left .0)
+  -- format(buffer, format), refused
+  unformatted : {f : Format} {fault : Refusal} (κs : Lives formatter.format.ended) (a : Arguments formatter.format.ended κs)
+      (p : Answer formatter.format.ended formatter.format.Reads.Learnt κs a)
+      → now (a .0) ≡ s → a .1 .0 ≡ f → p .result ≡ Refused fault → Answered s (format f) [] (p .left .0)
+  -- a call that reads: it leaves the buffer as it is, which the logic takes for granted of what is lent to be read
+  lent : {q : Read} → ReadAnswered s q → Answered s (read q) [] s
 
 -- calls one after another on a buffer, the writes among them that were accepted, and the buffer that they leave
 pub data Ran : List ℕ → List Call → List Write → List ℕ → Type 0 where
   none : {s : List ℕ} → Ran s [] [] s
-  next : {s t u : List ℕ} {c : Call} {o : Outcome} {cs : List Call} {ws : List Write}
-      → Answered s c o t → Ran t cs ws u → Ran s (c ∷ cs) (ifAccepted c o ++ ws) u
+  next : {s t u : List ℕ} {c : Call} {cs : List Call} {ws more : List Write} → Answered s c ws t → Ran t cs more u → Ran s (c ∷ cs) (ws ++ more) u
 
 -- listing(dump, reading, out) of a buffer t: the lines of writes, where rate, unit, serial and room are accepted
 abbrev pub Lists : List Write → List ℕ → Type 0
@@ -48,7 +79,7 @@ Lists ws t =
     let old = now (a .1 .1 .0) in
     length text ≤ length old → (p .result ≡ Written (length text)) × (p .left .1 .1 .0 ≡ text ++ drop (length text) old)
 
--- format(buffer, format), then calls, then the listing
+-- format(buffer, format), then calls, then the listing, arguments having the width that their types say
 abbrev pub Runs : Type 0
 Runs =
     (κs : Lives formatter.format.ended) (a : Arguments formatter.format.ended κs)

@@ -5,28 +5,23 @@ use mathlib.Core.List.{List, [], _∷_, _++_}
 use mathlib.Core.Path.{_≡_, refl, sym, ap, _∙_}
 use native.Mathlib.Omega.{arith}
 use lib.ListN.{getD, length, length-replicate, replicate}
-use Rattle.events.specs.Listing.{answer, listingRows, listingText}
+use Rattle.events.specs.Listing.{listedBy, listingRows, listingText}
 use Rattle.events.specs.declared.Listed.the-variants.{Written}
-use Rattle.rows.specs.Lowest.{lowest, count}
 use Rattle.rows.specs.Rows.{firstBroken}
 use Rattle.rows.specs.declared.Verdict.the-variants.{Passed}
 use Rattle.trace.proofs.Checks.{check-events, check-header, check-passed}
 use Rattle.trace.specs.Check.{checkOf}
-use Rattle.trace.specs.Layout.{traceId, headerIn, headerOf, slotSize}
-use Rattle.trace.specs.Slots.{eventCount, isFault}
-use Rattle.trace.specs.Table.{dumpRows, row1, row2, row3, row4, row5, row6, row7, row8, row9, row10, row11, row12, row13}
+use Rattle.trace.specs.Layout.{traceId, headerOf}
+use Rattle.trace.specs.Slots.{eventCount}
+use Rattle.trace.specs.Table.{dumpRows}
 use Rattle.trace.specs.declared.Checked.the-variants.{Refused, Sound}
 use Rattle.trace.specs.declared.Header.{Header}
 use Rattle.trace.specs.declared.Slot.{Slot}
-use Rattle.words.specs.Fields.{fieldBytes}
-use Rattle.words.specs.Masks.{widthTo}
-use Rattle.words.specs.Offsets.{minus, pointerTo}
-use Rattle.words.specs.Words.{bytesAt, lowestFirst, joined, split, numberAt, numberBytes, putNumber}
 use Rattle.words.specs.declared.Order.the-variants.{Little}
+use Rattle.writing.proofs.Opened.{open-writing}
 use Rattle.writing.specs.Arguments.{IsSlot}
-use Rattle.writing.specs.Bytes.{freeEntries, headerBytes, slotBytes}
-use Rattle.writing.specs.Table.{row17, row18, row24}
-use Rattle.writing.specs.Writing.{Change, cut, formatting, freshBytes, freshHeader, left, recording, said}
+use Rattle.writing.specs.Bytes.{headerBytes, slotBytes}
+use Rattle.writing.specs.Writing.{Change, formatting, left, recording, said}
 use Rattle.writing.specs.declared.Format.{Format}
 use Rattle.writing.specs.declared.Outcome.the-variants.{Done}
 use Rattle.demands.specs.Demands.{ThirdDemandAt}
@@ -91,7 +86,7 @@ record Computed : Type 0 where
   three-lines : length threeLines ≡ 377
 
 computed : Computed
-unfolding widthTo minus pointerTo bytesAt lowestFirst joined split numberAt numberBytes putNumber fieldBytes lowest count firstBroken headerIn slotSize checkOf isFault row1 row2 row3 row4 row5 row6 row7 row8 row9 row10 row11 row12 row13 row17 row18 row24 headerBytes slotBytes freeEntries freshBytes freshHeader cut formatting recording given one untouched firstOnly twoSlots blank headerAt dump unused used threeLines oldestLine middleLine newestLine
+unfolding open-writing given one untouched firstOnly twoSlots blank headerAt dump unused used threeLines oldestLine middleLine newestLine
 computed = record {
   made = refl;
   fresh-is = refl;
@@ -125,15 +120,17 @@ module _ (recorder : Slot → List ℕ → Change) (between last : List ℕ) (tw
   must-pass : checkOf last ≡ Sound (headerOf last) 2
   unfolding twoSlots
   must-pass =
-      rw after-is at (demand twoSlots blank calls (omega arith) (computed .made) (one-words, (one-words, tt)) (rw accepted-is) .passes)
+      rw after-is at (demand twoSlots blank calls (omega arith) (computed .made) (one-words, (one-words, tt)) (tt, (tt, tt)) (rw accepted-is) .passes)
 
 refusing-all : RefusesEverything → ⊥
 refusing-all fake =
     let d = dump 48 unused unused in
-    let refused = fake d in
-    let clash : true ≡ false =
-    cc (check-passed d (headerOf d) 0 (computed .no-event), first-given (dumpRows d (headerOf d)) (refused .0) (refused .1 .only (refused .0) refl)) in
-    true≢false clash
+    let (told, none, refused) = fake d in
+    let clash : (told .number ≡ 0 → ⊥) → ⊥ = λ some.
+    let broken = first-given (dumpRows d (headerOf d)) _ (refused .only some) in
+    let same : true ≡ false = cc (check-passed d (headerOf d) 0 (computed .no-event), broken) in
+    true≢false same in
+    clash (λ zero. refused .zero zero .1 none)
 
 listing-none : ListsNothing → ⊥
 listing-none fake =
@@ -141,7 +138,7 @@ listing-none fake =
     let case = whole-case Little in
     let header : headerOf d ≡ wholeHeader Little = sym (check-header d (wholeHeader Little) 3 (case .check)) in
     let room : firstBroken (listingRows d (headerOf d) reading (length {A = ℕ} (replicate 377 0))) ≡ Passed = rw (header, length-replicate) (case .room) in
-    let said : Written 0 ≡ answer (firstBroken (listingRows d (wholeHeader Little) reading 377)) (length (listingText d (wholeHeader Little) reading)) =
+    let said : Written 0 ≡ listedBy (firstBroken (listingRows d (wholeHeader Little) reading 377)) (length (listingText d (wholeHeader Little) reading)) =
     rw (header, length-replicate) at (fake d reading (replicate 377 0) room .answered) in
     let clash : Written 0 ≡ Written 377 = said ∙ rw (case .room, case .listing, computed .three-lines) in
     let none : _≡_ {A = ℕ} 0 377 = cc clash in

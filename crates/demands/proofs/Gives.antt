@@ -6,7 +6,7 @@ use borrow.Author.Tests.{leb-false}
 use Rattle.events.specs.Events.{eventAt, eventIn, eventOf}
 use Rattle.events.specs.declared.Event.{Event}
 use Rattle.events.specs.declared.Shown.the-variants.{Given}
-use Rattle.rows.proofs.Rows.{none-broken}
+use Rattle.rows.proofs.Rows.{among, unbroken}
 use Rattle.rows.specs.Rows.{firstBroken}
 use Rattle.trace.proofs.Checks.{check-events, check-header}
 use Rattle.trace.specs.Layout.{headerOf, slotAt}
@@ -25,7 +25,7 @@ event-gives : (s : List ℕ) (position : ℕ) (e : Event) → eventOf s position
 unfolding eventOf eventIn row25
 event-gives s position e is =
     let (passed, same) = given-is (firstBroken (eventRows s (headerOf s) position)) (eventAt s (headerOf s) position) e is in
-    (leb-false _ _ (none-broken (eventRows s (headerOf s) position) passed 13), ap (λ (e : Event). e .slot) same, ap (λ (e : Event). e .ticks) same)
+    (leb-false _ _ (unbroken passed (row25 position (eventCount s (headerOf s))) (search among depth 20)), ap (λ (e : Event). e .slot) same, ap (λ (e : Event). e .ticks) same)
 
 -- a call that writes gives what it says
 change-gives : (c : Change) (n : ℕ) → said c ≡ Done n → n ≡ c .gives

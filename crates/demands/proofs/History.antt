@@ -19,10 +19,11 @@ use Rattle.trace.specs.Slots.{slotIn}
 use Rattle.trace.specs.declared.Checked.the-variants.{Sound}
 use Rattle.writing.proofs.Moved.{moved-size}
 use Rattle.writing.specs.Keeping.{SameEvents}
-use Rattle.writing.specs.Writing.{altered, answer, cut, left, nextSlot, recording, registering, removing, said}
-use Rattle.demands.specs.History.{Call, Typed, Write, acceptedWrites, after, changeBy, given, ifAccepted, register, remove, write}
+use Rattle.writing.specs.Writing.{altered, outcomeBy, cut, formatting, nextSlot, recording, registering, removing}
+use Rattle.demands.specs.History.{Call, DoesNotFormat, NoneFormats, Typed, Write, acceptedWrites, after, format, given, ifAccepted, leftBy, read, register, remove, write, writesBy}
 use Rattle.demands.specs.Each.{Each}
 use Rattle.demands.specs.Writings.{Recorded}
+use Rattle.demands.proofs.Answers.{refused-is}
 use Rattle.demands.proofs.Writings.{recording-leaves, registering-leaves, removing-leaves}
 
 -- one slot on is one more, modulo the number of slots
@@ -100,32 +101,35 @@ module _ (n mask : ℕ) (some : 0 < n) where
     }
 
   -- any call, accepted or refused
-  call-holds : (c : Call) (ws : List Write) (s : List ℕ) → Typed c → Holds n mask ws s
-      → Holds n mask (ws ++ ifAccepted c (said (changeBy recording c s))) (left (changeBy recording c s) s)
-  call-holds (write w) ws s words holds = by (firstBroken (recording (given w) s .rows)) refl
+  call-holds : (c : Call) (ws : List Write) (s : List ℕ) → Typed c → DoesNotFormat c s → Holds n mask ws s
+      → Holds n mask (ws ++ writesBy recording c s) (leftBy recording c s)
+  call-holds (write w) ws s words none holds = by (firstBroken (recording (given w) s .rows)) refl
     where
       by : (v : Verdict) → firstBroken (recording (given w) s .rows) ≡ v
-          → Holds n mask (ws ++ ifAccepted (write w) (answer v (recording (given w) s .gives))) (altered v (recording (given w) s .leaves) s)
+          → Holds n mask (ws ++ ifAccepted (outcomeBy v (recording (given w) s .gives)) w) (altered v (recording (given w) s .leaves) s)
       by (Refused f) e = rw append-nil holds
       by Passed e = write-holds ws w s (recording (given w) s .leaves) (rw e at (recording-leaves (given w) s words e)) holds
-  call-holds (register object name) ws s word holds = rw append-nil (by (firstBroken (registering object name s .rows)) refl)
+  call-holds (register object name) ws s word none holds = rw append-nil (by (firstBroken (registering object name s .rows)) refl)
     where
       by : (v : Verdict) → firstBroken (registering object name s .rows) ≡ v → Holds n mask ws (altered v (registering object name s .leaves) s)
       by (Refused f) e = holds
       by Passed e =
           let leaves = registering-leaves object name s word e in
           events-hold ws s (registering object name s .leaves) (rw e at (leaves .header)) (rw e at (leaves .events)) (rw e at (leaves .sound (min (length ws) n))) holds
-  call-holds (remove pointer) ws s typed holds = rw append-nil (by (firstBroken (removing pointer s .rows)) refl)
+  call-holds (remove pointer) ws s typed none holds = rw append-nil (by (firstBroken (removing pointer s .rows)) refl)
     where
       by : (v : Verdict) → firstBroken (removing pointer s .rows) ≡ v → Holds n mask ws (altered v (removing pointer s .leaves) s)
       by (Refused f) e = holds
       by Passed e =
           let leaves = removing-leaves pointer s e in
           events-hold ws s (removing pointer s .leaves) (rw e at (leaves .header)) (rw e at (leaves .events)) (rw e at (leaves .sound (min (length ws) n))) holds
+  call-holds (format f) ws s typed (fault, refused) holds = rw (append-nil, refused-is (firstBroken (formatting f s .rows)) _ fault refused) holds
+  call-holds (read q) ws s typed none holds = rw append-nil holds
 
   -- so do all calls, one after another
-  pub calls-hold : (cs : List Call) (ws : List Write) (s : List ℕ) → Each Typed cs → Holds n mask ws s → Holds n mask (ws ++ acceptedWrites recording cs s) (after recording cs s)
-  calls-hold [] ws s typed holds = rw append-nil holds
-  calls-hold (c ∷ cs) ws s typed holds =
-      rw (← append-assoc ws (ifAccepted c (said (changeBy recording c s))) (acceptedWrites recording cs (left (changeBy recording c s) s)))
-      (calls-hold cs (ws ++ ifAccepted c (said (changeBy recording c s))) (left (changeBy recording c s) s) (typed .1) (call-holds c ws s (typed .0) holds))
+  pub calls-hold : (cs : List Call) (ws : List Write) (s : List ℕ) → Each Typed cs → NoneFormats recording cs s → Holds n mask ws s
+      → Holds n mask (ws ++ acceptedWrites recording cs s) (after recording cs s)
+  calls-hold [] ws s typed none holds = rw append-nil holds
+  calls-hold (c ∷ cs) ws s typed none holds =
+      rw (← append-assoc ws (writesBy recording c s) (acceptedWrites recording cs (leftBy recording c s)))
+      (calls-hold cs (ws ++ writesBy recording c s) (leftBy recording c s) (typed .1) (none .1) (call-holds c ws s (typed .0) (none .0) holds))

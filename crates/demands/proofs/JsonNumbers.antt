@@ -3,7 +3,7 @@ use Prim.Native.Nat.{ℕ, zero, suc, _+_, _/_, _%_, _<_}
 use mathlib.Core.Bool.{Bool, true, false, cond}
 use mathlib.Core.List.{List, [], _∷_, _++_, append-assoc, append-nil, map, map-append}
 use mathlib.Core.Option.{Option, none, some}
-use mathlib.Core.Path.{_≡_, refl, ap}
+use mathlib.Core.Path.{_≡_, refl, ap, _∙_}
 use native.Mathlib.Omega.{arith}
 use lib.Dec.{ltb}
 use borrow.Author.Tests.{le-leb, ltb-false, ltb-true, ne-eqb}
@@ -145,32 +145,28 @@ field-read : {from : Stand} {label ns : List ℕ} (n : ℕ) → Finds from label
 unfolding field
 field-read n label = rw append-nil at (label then number-read n)
 
--- a line, whatever follows it
-line-read : (l : Line) (named : Option (List ℕ)) (rest : List ℕ)
-    → numbersRead outside (line l named ++ rest) ≡ map digits (keep isBare (numbersOf l)) ++ numbersRead outside rest
+-- a line
+line-read : (l : Line) (named : Option (List ℕ)) → Finds outside (line l named) (numbersOf l) outside
 unfolding line numbersRead
-line-read l named = found .read
-  where
-    found : Finds outside (line l named) (numbersOf l) outside
-    found =
-        field-read (l .key) (nothing (λ rest. refl))
-        then field-read (l .ticks) (ends (l .key) refl (λ rest. refl))
-        then field-read (l .us) (ends (l .ticks) refl (λ rest. refl))
-        then field-read (l .id) (ends (l .us) refl (λ rest. refl))
-        then field-read (l .ptr) (ends (l .id) refl (λ rest. refl))
-        then ends (l .ptr) refl (λ rest. refl) then context-passed (l .by)
-        then nothing (λ rest. refl) then name-passed named
-        then field-read (l .field) (nothing (λ rest. refl))
-        then field-read (l .info .first) (ends (l .field) refl (λ rest. refl))
-        then field-read (l .info .second) (ends (l .info .first) refl (λ rest. refl))
-        then field-read (l .info .third) (ends (l .info .second) refl (λ rest. refl))
-        then field-read (l .info .fourth) (ends (l .info .third) refl (λ rest. refl))
-        then ends (l .info .fourth) refl (λ rest. refl)
+line-read l named =
+    field-read (l .key) (nothing (λ rest. refl))
+    then field-read (l .ticks) (ends (l .key) refl (λ rest. refl))
+    then field-read (l .us) (ends (l .ticks) refl (λ rest. refl))
+    then field-read (l .id) (ends (l .us) refl (λ rest. refl))
+    then field-read (l .ptr) (ends (l .id) refl (λ rest. refl))
+    then ends (l .ptr) refl (λ rest. refl) then context-passed (l .by)
+    then nothing (λ rest. refl) then name-passed named
+    then field-read (l .field) (nothing (λ rest. refl))
+    then field-read (l .info .first) (ends (l .field) refl (λ rest. refl))
+    then field-read (l .info .second) (ends (l .info .first) refl (λ rest. refl))
+    then field-read (l .info .third) (ends (l .info .second) refl (λ rest. refl))
+    then field-read (l .info .fourth) (ends (l .info .third) refl (λ rest. refl))
+    then ends (l .info .fourth) refl (λ rest. refl)
 
 -- the line of an event, and lines one after another
 line-found : (s : List ℕ) (h : Header) (r : Reading) (position : ℕ) → Finds outside (lineAt s h r position) (numbersOf (fields r position (eventAt s h position))) outside
 unfolding lineOf
-line-found s h r position = record { read = line-read (fields r position (eventAt s h position)) (nameBytes s (eventAt s h position .name)) }
+line-found s h r position = line-read (fields r position (eventAt s h position)) (nameBytes s (eventAt s h position .name))
 
 lines-found : (n : ℕ) (s : List ℕ) (h : Header) (r : Reading) → Finds outside (linesTo n s h r) (numbersTo n s h r) outside
 unfolding linesTo numbersTo
@@ -188,3 +184,15 @@ listing-numbers s h r = whole (lines-found (eventCount s h) s h r)
 pub line-numbers : (s : List ℕ) (h : Header) (r : Reading) (position : ℕ)
     → jsonNumbers (lineAt s h r position) ≡ map digits (keep isBare (numbersOf (fields r position (eventAt s h position))))
 line-numbers s h r position = whole (line-found s h r position)
+
+-- what a printer of one line or of one number writes
+pub one-line-numbers : (l : Line) (named : Option (List ℕ)) → jsonNumbers (line l named) ≡ map digits (keep isBare (numbersOf l))
+one-line-numbers l named = whole (line-read l named)
+
+pub one-number : (n : ℕ) → jsonNumbers (number n) ≡ map digits (keep isBare (n ∷ []))
+unfolding numbersRead keep
+one-number n = rw (append-nil (number n)) at (number-read n .read []) ∙ by-limit (isBare n)
+  where
+    by-limit : (bare : Bool) → numbersRead (cond bare (within (digits n)) outside) [] ≡ map digits (cond bare (n ∷ []) [])
+    by-limit true = refl
+    by-limit false = refl

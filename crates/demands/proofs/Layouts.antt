@@ -9,7 +9,7 @@ use native.Mathlib.Omega.{arith}
 use lib.Dec.{eqb}
 use lib.ListN.{drop, getD, length, replicate, take, getD-replicate, length-replicate, List·getD-append}
 use lib.Seq.{sets, getD-append-add}
-use Rattle.trace.specs.Layout.{headerOf, headerSize}
+use Rattle.trace.specs.Layout.{headerOf, headerSize, nameOffset}
 use Rattle.trace.specs.declared.Header.{Header}
 use Rattle.words.proofs.Runs.{byte-is, fields-length, run-byte}
 use Rattle.words.specs.Fields.{fieldBytes}
@@ -62,7 +62,7 @@ thread-small object reserved small = by (eqb (object .«object_type») 1)
     by true = small
     by false = omega arith
 
-entry-read : (o : Order) (object : Object) (name s : List ℕ) (size at : ℕ) → IsObject object → at + (16 + size) ≤ length s
+entry-read : (o : Order) (object : Object) (name s : List ℕ) (size at : ℕ) → IsObject object → at + (nameOffset + size) ≤ length s
     → EntryRead o object name size (sets s at (entryBytes o size object name)) at
 unfolding fitted
 entry-read o object name s size at is fits =

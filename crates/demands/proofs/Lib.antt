@@ -20,9 +20,11 @@ pub mod Shown
 pub mod Starred
 pub mod Texts
 pub mod ThirdDemand
+pub mod Told
 pub mod TrueTimes
 pub mod Turns
 pub mod Typed
 pub mod WholeCalls
 pub mod WholeCase
 pub mod Writings
+pub mod Wrong

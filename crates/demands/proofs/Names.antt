@@ -19,10 +19,10 @@ use Rattle.rows.specs.Rows.{firstBroken}
 use Rattle.rows.specs.declared.Verdict.the-variants.{Passed, Refused}
 use Rattle.text.specs.declared.Context.{Context}
 use Rattle.text.specs.declared.Context.the-variants.{Init, Isr, Thread}
-use Rattle.trace.proofs.Passed.{entry-within, header-passed, registry-passed}
+use Rattle.trace.proofs.Passed.{entry-within, registry-passed}
 use Rattle.trace.proofs.Threads.{thread-hit}
 use Rattle.trace.specs.Layout.{entryAt, entryCount, headerOf}
-use Rattle.trace.specs.Names.{entryName, findName, isNamed, isZeroAt, nameAt, nameFound, nameLength, nameOf, searched, threadEntry}
+use Rattle.trace.specs.Names.{entryName, findName, isNamed, isZeroAt, nameAt, nameFound, lengthToZero, nameOf, threadEntry}
 use Rattle.trace.specs.Registry.{isWanted, isWantedAt}
 use Rattle.trace.specs.Slots.{eventCount}
 use Rattle.trace.specs.Table.{dumpRows, eventRows, registryRows, row25}
@@ -52,7 +52,7 @@ module _ (s : List ℕ) (h : Header) where
     no-lower = λ j lower. missed pointer j (lowest-before (isWanted (wanted.Thread pointer) s h) (entryCount h) j lower);
   }
 
-  extends : (i : ℕ) → Extends s h i (nameAt h i) (nameLength s (nameAt h i) (h .«name_size»))
+  extends : (i : ℕ) → Extends s h i (nameAt h i) (lengthToZero s (nameAt h i) (h .«name_size»))
   extends i = record {
     begins = refl;
     no-zero = λ k below. eqb-false (getD s (nameAt h i + k) 0) 0 (lowest-before zero-at (h .«name_size») k below);
@@ -63,7 +63,7 @@ module _ (s : List ℕ) (h : Header) where
       zero-at = isZeroAt s (nameAt h i)
 
       size : ℕ
-      size = nameLength s (nameAt h i) (h .«name_size»)
+      size = lengthToZero s (nameAt h i) (h .«name_size»)
 
       by : Dec (size < h .«name_size») → (size ≡ h .«name_size») ⊎ ((size < h .«name_size») × (getD s (nameAt h i + size) 0 ≡ 0))
       by (yes short) = inr (short, eqb-true (getD s (nameAt h i + size) 0) 0 (lowest-hit zero-at (h .«name_size») short))
@@ -77,7 +77,7 @@ module _ (s : List ℕ) (h : Header) where
           → (i : ℕ) × Lowest s h pointer i × Extends s h i at size
       by true below e =
           let start : nameAt h (threadEntry s h pointer) ≡ at = cc in
-          let long : nameLength s (nameAt h (threadEntry s h pointer)) (h .«name_size») ≡ size = cc in
+          let long : lengthToZero s (nameAt h (threadEntry s h pointer)) (h .«name_size») ≡ size = cc in
           (threadEntry s h pointer, lowest-is pointer (ltb-true _ _ below), rw (← start, ← long) (extends (threadEntry s h pointer)))
       by false none e = absurd (true≢false (ap isNamed (sym e)))
 
@@ -99,7 +99,7 @@ module _ (s : List ℕ) (h : Header) where
         by (Named at size) e =
             let entry = named pointer at size e in
             let most : size ≤ h .«name_size» = ⊎-elim (λ full. omega arith) (λ short. omega arith) (entry .2 .ends) in
-            omega (arith, entry-within h (length s) (header-passed s h passed) (entry .0) (entry .1 .below), entry .2 .begins)
+            omega (arith, entry-within h (length s) _ passed (entry .0) (entry .1 .below), entry .2 .begins)
 
     by-context : (by : Context) (slot : Slot) → LiesWithin (nameFor by s h slot) s
     unfolding nameFor

@@ -1,28 +1,30 @@
--- Dumps that differ only where nothing is read get the same answers: their headers are the same and, where these pass, so is what is read of entries and slots.
-use Prim.Native.Nat.{ℕ, _+_, _≤_, _<_}
+-- Dumps that differ only where nothing is read get the same answers: their headers are the same, and so is what rows 1 to 10 say and, where these pass, what is read of entries and slots.
+use Prim.Native.Nat.{ℕ, _+_, _≤_, _<_, min}
 use mathlib.Core.Bool.{not}
 use mathlib.Core.List.{List, [], _∷_, _++_}
 use mathlib.Core.Logic.{_⊎_, inl, inr, ⊎-elim}
-use mathlib.Core.Path.{_≡_, refl, sym, ap, ap₂, _∙_, subst₂}
-use native.Mathlib.Decide.{ℕ-discrete}
+use mathlib.Core.Path.{_≡_, refl, sym, ap, ap₂, _∙_}
+use native.Mathlib.Decide.{decLt, ℕ-discrete}
 use native.Mathlib.Nat.{mul-le-mul-right, zero-add}
 use native.Mathlib.Omega.{arith}
 use lib.Dec.{ltb}
-use lib.ListN.{length}
-use Rattle.events.specs.Events.{eventAt, eventOf, given}
+use lib.ListN.{List·getD-append, getD, length, length-append}
+use borrow.Author.Tests.{le-ltb}
+use Rattle.events.specs.Events.{eventAt, eventOf, shownBy}
 use Rattle.events.specs.Listing.{Gave, lineAt, listingText, readingRows}
 use Rattle.events.specs.declared.Listed.{Listed}
 use Rattle.events.specs.declared.Reading.{Reading}
 use Rattle.events.specs.declared.Shown.the-variants as shown
-use Rattle.rows.proofs.Rows.{then-refused}
+use Rattle.rows.proofs.Rows.{then-refused, then-same}
 use Rattle.rows.specs.Rows.{Row, firstBroken, row, rowAt}
 use Rattle.rows.specs.declared.Refusal.{Refusal}
 use Rattle.rows.specs.declared.Verdict.{Verdict}
 use Rattle.rows.specs.declared.Verdict.the-variants.{Passed, Refused}
 use Rattle.trace.proofs.Passed.{current-within, entries-before, parts-apart, slot-some, slot-within, slots-end}
-use Rattle.trace.proofs.SameDumps.{dump-same, events-same, registry-same}
-use Rattle.trace.specs.Check.{answer, checkOf}
-use Rattle.trace.specs.Layout.{currentSlot, entryAt, entryCount, entrySize, headerOf, headerSize, slotAt, slotCount, slotSize}
+use Rattle.trace.proofs.SameDumps.{dump-same, events-same}
+use Rattle.trace.proofs.Opened.{open-rows}
+use Rattle.trace.specs.Check.{checkedBy, checkOf}
+use Rattle.trace.specs.Layout.{currentSlot, entryAt, entryCount, entrySize, headerOf, headerSize, registryEnd, slotAt, slotCount, slotSize}
 use Rattle.trace.specs.Names.{findName, nameBytes, nameOf, threadEntry}
 use Rattle.trace.specs.Slots.{eventCount, slotIn}
 use Rattle.trace.specs.Table.{dumpRows, eventRows, headerRows, row11, row12, row13, row16, row25}
@@ -30,16 +32,16 @@ use Rattle.trace.specs.declared.Checked.the-variants as checked
 use Rattle.trace.specs.declared.Found.the-variants as found
 use Rattle.trace.specs.declared.Header.{Header}
 use Rattle.trace.specs.declared.Wanted.{Wanted}
-use Rattle.trace.specs.declared.Wanted.the-variants.{BadType, Free, InUse, Thread}
-use Rattle.writing.proofs.SameNames.{SameNamed, names-agree}
-use Rattle.writing.proofs.SameRegistry.{lowest-wanted, registry-kept}
+use Rattle.trace.specs.declared.Wanted.the-variants.{Free, InUse, Thread}
+use Rattle.writing.proofs.SameNames.{SameNamed, SameReach, names-agree}
+use Rattle.writing.proofs.SameRegistry.{RegistryKept, lowest-wanted, registry-kept}
 use Rattle.trace.proofs.SameBytes.{SameBut, same-header, same-slot}
 use Rattle.writing.specs.Table.{lowestEntry, row19, row20, row21, row22, row23}
-use Rattle.writing.specs.Writing.{Change, recording, recordingRows, registering, removing, said}
+use Rattle.writing.specs.Writing.{Change, recording, registering, removing, said}
 use Rattle.writing.specs.Writing as writing
 use Rattle.writing.specs.declared.Outcome.the-variants as outcome
 use Rattle.demands.specs.Names.{nameShown}
-use Rattle.demands.specs.NotRead.{DifferOnlyThere, NotRead, SameAnswers}
+use Rattle.demands.specs.NotRead.{DifferOnlyThere, NotRead, SameAnswers, Whole}
 use Rattle.demands.proofs.SameLines.{event-name-same, event-same, line-same, listing-same}
 
 -- places that are read: of the header, and, where it passes, of an entry and of a slot
@@ -58,13 +60,23 @@ module _ (h : Header) (n : ℕ) (passed : firstBroken (headerRows h n) ≡ Passe
       by : Dec (i ≡ other) → ⊥
       by (yes same) = let at : entryAt h i ≡ entryAt h other = ap (entryAt h) same in ⊎-elim (λ p. omega arith) (λ p. omega arith) aside
       by (no differs) = ⊎-elim (λ p. omega arith) (λ p. omega arith) (parts-apart headerSize (entrySize h) i other differs)
-  entry-read i k below near aside (inr (inr past)) = omega (arith, entries-before h n passed, slots-end h n passed, mul-le-mul-right (entrySize h) below)
+  entry-read i k below near aside (inr (inr past)) = omega (arith, entries-before h n _ passed, slots-end h n _ passed, mul-le-mul-right (entrySize h) below)
 
   slot-read : (i k : ℕ) → i < slotCount h → k < slotSize h → NotRead h (slotAt h i + k) → ⊥
-  slot-read i k below near (inl (inl two)) = omega (arith, entries-before h n passed)
-  slot-read i k below near (inl (inr last)) = omega (arith, entries-before h n passed)
-  slot-read i k below near (inr (inl (entry, inside, two))) = omega (arith, entries-before h n passed, mul-le-mul-right (entrySize h) inside)
-  slot-read i k below near (inr (inr past)) = omega (arith, slot-within h n passed i below)
+  slot-read i k below near (inl (inl two)) = omega (arith, entries-before h n _ passed)
+  slot-read i k below near (inl (inr last)) = omega (arith, entries-before h n _ passed)
+  slot-read i k below near (inr (inl (entry, inside, two))) = omega (arith, entries-before h n _ passed, mul-le-mul-right (entrySize h) inside)
+  slot-read i k below near (inr (inr past)) = omega (arith, slot-within h n _ passed i below)
+
+-- rows 1 to 10 say the same of two lengths that are whole, since no test of the length is met
+whole-same : (h : Header) (m n : ℕ) → Whole h m → Whole h n → firstBroken (headerRows h m) ≡ firstBroken (headerRows h n)
+unfolding firstBroken open-rows
+whole-same h m n (long, registry, buffer, short) (other-long, other-registry, other-buffer, other-short) = simp le-ltb
+
+-- of two calls that say the same and have the same text, what one gives the other gives
+gave-same : (rows more : List Row) (text other old new : List ℕ) (said : Listed) → firstBroken more ≡ firstBroken rows → other ≡ text
+    → Gave rows text old new said → Gave more other old new said
+gave-same rows more text other old new said say same gave = record { answered = rw (say, same) (gave .answered); output = rw (say, same) (gave .output) }
 
 -- of two calls that are refused alike, what one gives the other gives
 gave-refused : (rows more : List Row) (text other old new : List ℕ) (said : Listed) (f : Refusal) → firstBroken rows ≡ Refused f → firstBroken more ≡ Refused f
@@ -93,7 +105,7 @@ module _ (s : List ℕ) (f : Refusal) (refused : firstBroken (headerRows (header
   event-refused position = rw (dump-refused (row25 position (eventCount s (headerOf s)) ∷ []))
 
   said-refused : (c : Change) (more : List Row) → headerRows (headerOf s) (length s) ++ more ≡ c .rows → said c ≡ outcome.Refused f
-  said-refused c more all = ap (λ (v : Verdict). writing.answer v (c .gives)) (ap firstBroken (sym all) ∙ all-refused more)
+  said-refused c more all = ap (λ (v : Verdict). writing.outcomeBy v (c .gives)) (ap firstBroken (sym all) ∙ all-refused more)
 
 both-refused : (s t : List ℕ) (f : Refusal) → firstBroken (headerRows (headerOf s) (length s)) ≡ Refused f
     → firstBroken (headerRows (headerOf t) (length t)) ≡ Refused f → SameAnswers s t
@@ -114,9 +126,16 @@ module _ (s t : List ℕ) (there : DifferOnlyThere s t) where
   header-same : headerOf t ≡ headerOf s
   header-same = same-header s t (λ k below aside. rw zero-add (there .same k (header-read (headerOf s) k below aside)))
 
+  -- rows 1 to 10 say the same, and both reach as far into the registry
+  rows-same : firstBroken (headerRows (headerOf t) (length t)) ≡ firstBroken (headerRows (headerOf s) (length s))
+  rows-same = rw header-same (⊎-elim (λ long. rw long) (λ whole. whole-same (headerOf s) (length t) (length s) (whole .1) (whole .0)) (there .size))
+
+  reach-same : SameReach s t (registryEnd (headerOf s))
+  reach-same = ⊎-elim (ap (min _)) (λ whole. omega arith) (there .size)
+
   module _ (passed : firstBroken (headerRows (headerOf s) (length s)) ≡ Passed) where
     inside : currentSlot (headerOf s) < slotCount (headerOf s)
-    inside = current-within (headerOf s) (length s) passed
+    inside = current-within (headerOf s) (length s) _ passed
 
     entries-same : (i : ℕ) → i < entryCount (headerOf s) → SameBut 2 s t (entryAt (headerOf s) i) (entrySize (headerOf s))
     entries-same i below k near aside = there .same (entryAt (headerOf s) i + k) (entry-read (headerOf s) (length s) passed i k below near aside)
@@ -128,13 +147,14 @@ module _ (s t : List ℕ) (there : DifferOnlyThere s t) where
 
     names-same : (pointer : ℕ) → SameNamed s t (nameOf s (headerOf s) pointer) (nameOf t (headerOf s) pointer)
     names-same pointer =
-        names-agree s t (headerOf s) (there .size) pointer (lowest-wanted s t (headerOf s) entries-same (Thread pointer)) (entries-same (threadEntry s (headerOf s) pointer))
+        names-agree s t (headerOf s) reach-same pointer (lowest-wanted s t (headerOf s) entries-same (Thread pointer)) (entries-same (threadEntry s (headerOf s) pointer))
 
     -- what the calls go by, of the headers that are read
-    rows : dumpRows t (headerOf t) ≡ dumpRows s (headerOf s)
-    rows =
-        ap (dumpRows t) header-same
-        ∙ dump-same s t (headerOf s) inside words-same (registry-same s t (headerOf s) (there .size) (lowest-wanted s t (headerOf s) entries-same BadType))
+    registry : RegistryKept s t
+    registry = registry-kept s t (headerOf s .current) header-same entries-same reach-same rows-same
+
+    all-same : firstBroken (dumpRows t (headerOf t)) ≡ firstBroken (dumpRows s (headerOf s))
+    all-same = rw header-same (dump-same s t (headerOf s) inside words-same (rw header-same at (registry .rows)))
 
     events : eventCount t (headerOf t) ≡ eventCount s (headerOf s)
     events = ap (eventCount t) header-same ∙ events-same s t (headerOf s) inside words-same
@@ -155,29 +175,27 @@ module _ (s t : List ℕ) (there : DifferOnlyThere s t) where
     both-passed : SameAnswers s t
     unfolding checkOf eventOf nameBytes recording registering removing row20 row21 row22
     both-passed = record {
-      check = λ k. answer (firstBroken (rows k)) (header-same k) (events k);
-      name = registry-kept s t (headerOf s .current) header-same entries-same (there .size) passed passed .names;
-      event = λ p k. given (firstBroken (rows k ++ (row25 p (events k) ∷ []))) (event-at p k);
+      check = λ k. checkedBy (all-same k) (header-same k) (events k);
+      name = registry .names;
+      event = λ p. ap₂ shownBy (then-same _ _ all-same (λ k. row25 p (events k) ∷ [])) (event-at p);
       event-name = λ p. name-bytes p (firstBroken (eventRows s (headerOf s) p));
       listing = λ r old new said.
-          subst₂ (λ (rows : List Row) (text : List ℕ). Gave rows text old new said)
-          (λ k. sym rows k ++ (readingRows r (sym events k) ++ (row16 (length (sym (listing-text r) k)) (length old) ∷ []))) (sym (listing-text r));
+          gave-same _ _ _ _ old new said
+          (then-same _ _ all-same (λ k. readingRows r (events k) ++ (row16 (length (listing-text r k)) (length old) ∷ []))) (listing-text r);
       line = λ r p old new said.
-          subst₂ (λ (rows : List Row) (text : List ℕ). Gave rows text old new said)
-          (λ k. sym rows k ++ (readingRows r (sym events k) ++ (row25 p (sym events k) ∷ row16 (length (sym (line-text r p) k)) (length old) ∷ []))) (sym (line-text r p));
-      recording = λ slot k. writing.answer (firstBroken (recordingRows (header-same k) (there .size k) slot)) (currentSlot (header-same k));
-      registering = λ object name k.
+          gave-same _ _ _ _ old new said
+          (then-same _ _ all-same (λ k. readingRows r (events k) ++ (row25 p (events k) ∷ row16 (length (line-text r p k)) (length old) ∷ []))) (line-text r p);
+      recording = λ slot. ap₂ writing.outcomeBy (then-same _ _ rows-same refl) (ap currentSlot header-same);
+      registering = λ object name.
+          ap₂ writing.outcomeBy (then-same _ _ rows-same (λ k.
           let used : ℕ = entry-same (InUse (object .pointer)) k in
-          let free : ℕ = entry-same Free k in
           let count = entryCount (header-same k) in
-          writing.answer (firstBroken (headerRows (header-same k) (there .size k)
-          ++ (row19 (object .«object_type») ∷ row23 name ∷ rowAt 20 (ltb used count) used ∷ row 21 (not (ltb free count)) ∷ []))) free;
-      removing = λ pointer k.
-          let used : ℕ = entry-same (InUse pointer) k in
-          writing.answer (firstBroken (headerRows (header-same k) (there .size k) ++ (row 22 (not (ltb used (entryCount (header-same k)))) ∷ []))) used;
+          row19 (object .«object_type») ∷ row23 name ∷ rowAt 20 (ltb used count) used ∷ row 21 (not (ltb (entry-same Free k) count)) ∷ [])) (entry-same Free);
+      removing = λ pointer.
+          ap₂ writing.outcomeBy (then-same _ _ rows-same (λ k. row 22 (not (ltb (entry-same (InUse pointer) k) (entryCount (header-same k)))) ∷ [])) (entry-same (InUse pointer));
     }
       where
-        name-bytes : (p : ℕ) (v : Verdict) → let was = nameShown (given v (eventAt s (headerOf s) p)) in nameBytes t was ≡ nameBytes s was
+        name-bytes : (p : ℕ) (v : Verdict) → let was = nameShown (shownBy v (eventAt s (headerOf s) p)) in nameBytes t was ≡ nameBytes s was
         name-bytes p (Refused f) = refl
         name-bytes p Passed = event-name-same s t (headerOf s) inside words-same names-same p
 
@@ -185,5 +203,13 @@ pub not-read : (s t : List ℕ) → DifferOnlyThere s t → SameAnswers s t
 not-read s t there = by (firstBroken (headerRows (headerOf s) (length s))) refl
   where
     by : (v : Verdict) → firstBroken (headerRows (headerOf s) (length s)) ≡ v → SameAnswers s t
-    by (Refused f) refused = both-refused s t f refused (ap₂ (λ (h : Header) (n : ℕ). firstBroken (headerRows h n)) (header-same s t there) (there .size) ∙ refused)
+    by (Refused f) refused = both-refused s t f refused (rows-same s t there ∙ refused)
     by Passed passed = both-passed s t there passed
+
+-- bytes appended to a dump that is whole lie past both ends
+pub appended : (s more : List ℕ) → Whole (headerOf s) (length s) → length (s ++ more) ≤ 65536 → SameAnswers s (s ++ more)
+appended s more whole short = not-read s (s ++ more) (record { size = inr (whole, omega (arith, length-append s more)); same = λ i read. by i read (decLt i (length s)) })
+  where
+    by : (i : ℕ) → (NotRead (headerOf s) i → ⊥) → Dec (i < length s) → getD (s ++ more) i 0 ≡ getD s i 0
+    by i read (yes before) = List·getD-append s more 0 i before
+    by i read (no past) = absurd (read (inr (inr (omega arith))))

@@ -1,39 +1,36 @@
 -- Every call is refused exactly by the first of its rows that is broken, and then alters no lent byte; the orders of rows compute.
-use Prim.Native.Nat.{ℕ}
-use mathlib.Core.Bool.{Bool, true, false, cond, true≢false}
+use Prim.Native.Nat.{ℕ, _≤_}
+use mathlib.Core.Bool.{Bool, true, false, _&&_, cond, true≢false}
 use mathlib.Core.List.{List, [], _∷_, _++_}
 use mathlib.Core.Path.{_≡_, refl, sym, ap, _∙_}
-use lib.ListN.{drop, length}
-use Rattle.events.specs.Events.{eventAt, eventOf}
-use Rattle.events.specs.Events as events
-use Rattle.events.specs.Listing.{Gave, written}
-use Rattle.events.specs.Listing as listing
+use native.Mathlib.Omega.{arith}
+use lib.Dec.{ltb}
+use lib.ListN.{length}
+use borrow.Author.Tests.{ltb-true}
+use Rattle.events.specs.Events.{eventAt, eventNumbers, eventOf, shownBy, shownTold, slotNumbers}
+use Rattle.events.specs.Listing.{Gave, listedBy, listedTold}
 use Rattle.events.specs.declared.Event.{Event}
 use Rattle.events.specs.declared.Listed.{Listed}
-use Rattle.events.specs.declared.Listed.the-variants as listed
-use Rattle.events.specs.declared.Shown.the-variants as shown
 use Rattle.rows.specs.Rows.{Row, firstBroken, refusal}
+use Rattle.rows.specs.Told.{Told, toldRefusal, toldValues}
 use Rattle.rows.specs.declared.Refusal.{Refusal}
 use Rattle.rows.specs.declared.Verdict.{Verdict}
 use Rattle.rows.specs.declared.Verdict.the-variants.{Passed, Refused}
-use Rattle.trace.specs.Check.{checkOf}
-use Rattle.trace.specs.Check as check
+use Rattle.trace.proofs.Opened.{open-rows}
+use Rattle.trace.specs.Check.{checkOf, checkedBy, checkedTold, headerNumbers}
 use Rattle.trace.specs.Layout.{headerOf}
-use Rattle.trace.specs.Names.{findName, nameOf, searched}
+use Rattle.trace.specs.Names.{findName, foundBy, foundTold, nameNumbers, nameOf}
 use Rattle.trace.specs.Ring.{numbersFrom}
 use Rattle.trace.specs.Slots.{eventCount}
-use Rattle.trace.specs.Table.{dumpRows, eventRows, registryRows, row1, row2, row3, row4, row5, row6, row7, row8, row9, row10, row11, row12, row13, row14, row15, row16, row25}
-use Rattle.trace.specs.declared.Checked.the-variants as checked
-use Rattle.trace.specs.declared.Found.the-variants as found
+use Rattle.trace.specs.Table.{dumpRows, eventRows, registryRows}
 use Rattle.trace.specs.declared.Header.{Header}
 use Rattle.trace.specs.declared.Name.{Name}
-use Rattle.writing.specs.Table.{row17, row18, row19, row20, row21, row22, row23, row24}
-use Rattle.writing.specs.Writing.{Change, formatting, recording, registering, removing, said}
-use Rattle.writing.specs.Writing as writing
-use Rattle.writing.specs.declared.Outcome.the-variants as outcome
+use Rattle.trace.specs.declared.Name.the-variants.{Named, Nameless}
+use Rattle.writing.proofs.Opened.{open-writing-rows}
+use Rattle.writing.specs.Writing.{Change, formatting, left, outcomeBy, outcomeTold, recording, registering, removing, said}
 use Rattle.demands.specs.Demands.{FirstDemand, Writes}
 use Rattle.demands.specs.Each.{Each}
-use Rattle.demands.specs.Refusals.{FirstBroken, Orders, Places, Refuses, RefusesAndKeeps}
+use Rattle.demands.specs.Refusals.{FirstBroken, Refuses, RefusesAndKeeps, Unbroken}
 
 -- the first broken row, found and given back
 one-more : (r : Row) (rows : List Row) (f : Refusal) → r .broken ≡ false → FirstBroken rows f → FirstBroken (r ∷ rows) f
@@ -59,7 +56,7 @@ first-found (r ∷ rows) f e = by (r .broken) refl e (first-found rows f)
         record { before = []; this = r; more = rows; all = refl; kept = tt; broken = broken; number = ap (λ (g : Refusal). g .number) same; place = ap (λ (g : Refusal). g .place) same }
     by false kept e rest = one-more r rows f kept (rest e)
 
-behind-kept : (before : List Row) (this : Row) (more : List Row) → Each (λ r. r .broken ≡ false) before → this .broken ≡ true → firstBroken (before ++ (this ∷ more)) ≡ Refused (refusal this)
+behind-kept : (before : List Row) (this : Row) (more : List Row) → Each Unbroken before → this .broken ≡ true → firstBroken (before ++ (this ∷ more)) ≡ Refused (refusal this)
 unfolding firstBroken
 behind-kept [] this more kept broken = rw broken
 behind-kept (r ∷ before) this more kept broken = rw (kept .0) (behind-kept before this more (kept .1) broken)
@@ -69,87 +66,134 @@ first-given rows f first =
     ap firstBroken (first .all) ∙ behind-kept (first .before) (first .this) (first .more) (first .kept) (first .broken)
     ∙ ap Refused (λ i. record { number = sym (first .number) i; place = sym (first .place) i })
 
--- an answer that is made of the verdict alone tells it
-module _ {A : Type 0} (refused : Refusal → A) (made : Verdict → A) (shows : (f : Refusal) → made (Refused f) ≡ refused f) (tells : (v : Verdict) (f : Refusal) → made v ≡ refused f → v ≡ Refused f) where
-  refuses : (rows : List Row) → Refuses refused rows (made (firstBroken rows))
-  refuses rows = record {
-    when = λ f first. ap made (first-given rows f first) ∙ shows f;
-    only = λ f e. first-found rows f (tells (firstBroken rows) f e);
-  }
+-- where none is broken
+pub each-kept : (rows : List Row) → firstBroken rows ≡ Passed → Each Unbroken rows
+unfolding firstBroken
+each-kept [] passed = tt
+each-kept (r ∷ rows) passed = by (r .broken) refl passed (each-kept rows)
+  where
+    by : (b : Bool) → r .broken ≡ b → cond b (Refused (refusal r)) (firstBroken rows) ≡ Passed → (firstBroken rows ≡ Passed → Each Unbroken rows) → Each Unbroken (r ∷ rows)
+    by true broken e rest = let clash : true ≡ false = cc in absurd (true≢false clash)
+    by false kept e rest = (kept, rest e)
 
--- so do the answers of all calls
-checked-tells : (h : Header) (n : ℕ) (v : Verdict) (f : Refusal) → check.answer v h n ≡ checked.Refused f → v ≡ Refused f
-checked-tells h n (Refused g) f e = cc
-checked-tells h n Passed f e = cc
+-- no row has the number 0
+abbrev positive : List Row → Bool
+positive [] = true
+positive (r ∷ rows) = ltb 0 (r .number) && positive rows
 
-found-tells : (name : Name) (v : Verdict) (f : Refusal) → searched v name ≡ found.Refused f → v ≡ Refused f
-found-tells name (Refused g) f e = cc
-found-tells name Passed f e = cc
+positive-refusal : (rows : List Row) (f : Refusal) → positive rows ≡ true → firstBroken rows ≡ Refused f → 1 ≤ f .number
+positive-refusal rows f above refused =
+    let first = first-found rows f refused in
+    rw (first .number) (here (first .before) (first .this) (first .more) (rw (← (first .all)) above))
+  where
+    both : (a b : Bool) → (a && b) ≡ true → (a ≡ true) × (b ≡ true)
+    both true b e = (refl, e)
+    both false b e = absurd (true≢false (sym e))
 
-shown-tells : (event : Event) (v : Verdict) (f : Refusal) → events.given v event ≡ shown.Refused f → v ≡ Refused f
-shown-tells event (Refused g) f e = cc
-shown-tells event Passed f e = cc
+    here : (before : List Row) (this : Row) (more : List Row) → positive (before ++ (this ∷ more)) ≡ true → 1 ≤ this .number
+    here [] this more above = ltb-true 0 (this .number) (both (ltb 0 (this .number)) (positive more) above .0)
+    here (r ∷ before) this more above = here before this more (both (ltb 0 (r .number)) (positive (before ++ (this ∷ more))) above .1)
 
-listed-tells : (n : ℕ) (v : Verdict) (f : Refusal) → listing.answer v n ≡ listed.Refused f → v ≡ Refused f
-listed-tells n (Refused g) f e = cc
-listed-tells n Passed f e = cc
+-- what a verdict and the values given tell
+abbrev toldBy : Verdict → List ℕ → Told
+toldBy (Refused f) values = toldRefusal f
+toldBy Passed values = toldValues values
 
-outcome-tells : (n : ℕ) (v : Verdict) (f : Refusal) → writing.answer v n ≡ outcome.Refused f → v ≡ Refused f
-outcome-tells n (Refused g) f e = cc
-outcome-tells n Passed f e = cc
+refuses : (rows : List Row) (values : List ℕ) → (values ≡ [] → ⊥) → positive rows ≡ true → Refuses rows (toldBy (firstBroken rows) values)
+refuses rows values given above = by (firstBroken rows) refl
+  where
+    by : (v : Verdict) → firstBroken rows ≡ v → Refuses rows (toldBy v values)
+    by (Refused f) e = record {
+      when = λ g first. let same : Refused f ≡ Refused g = sym e ∙ first-given rows g first in cc;
+      only = λ some. first-found rows f e;
+      zero = λ none. absurd (omega (arith, positive-refusal rows f above e));
+    }
+    by Passed e = record {
+      when = λ g first. let clash : Passed ≡ Refused g = sym e ∙ first-given rows g first in cc;
+      only = λ some. absurd (some refl);
+      zero = λ none. (refl, given, each-kept rows e);
+    }
 
-pub prints : (rows : List Row) (text old new : List ℕ) (said : Listed) → Gave rows text old new said → RefusesAndKeeps listed.Refused rows old new said
-prints rows text old new said gave = (
-  rw (gave .answered) (refuses listed.Refused (λ v. listing.answer v (length text)) (λ f. refl) (listed-tells (length text)) rows),
-  λ f e. gave .output ∙ ap (λ (v : Verdict). written v text ++ drop (length (written v text)) old) (listed-tells (length text) (firstBroken rows) f (sym (gave .answered) ∙ e)),
-)
+some-value : {v : ℕ} {values : List ℕ} → v ∷ values ≡ [] → ⊥
+some-value none = let clash : true ≡ false = cc in true≢false clash
 
-pub writes : (c : Change) (s : List ℕ) → Writes c s
-writes c s = (
-  refuses outcome.Refused (λ v. writing.answer v (c .gives)) (λ f. refl) (outcome-tells (c .gives)) (c .rows),
-  λ f e. ap (λ (v : Verdict). writing.altered v (c .leaves) s) (outcome-tells (c .gives) (firstBroken (c .rows)) f e),
-)
+name-some : (name : Name) → nameNumbers name ≡ [] → ⊥
+unfolding nameNumbers
+name-some Nameless none = some-value none
+name-some (Named at length) none = some-value none
 
-orders : Orders
-unfolding numbersFrom row1 row2 row3 row4 row5 row6 row7 row8 row9 row10 row11 row12 row13 row14 row15 row16 row17 row18 row19 row20 row21 row22 row23 row24 row25 recording registering removing formatting
-orders = record {
-  checking = λ s. refl;
-  finding = λ s. refl;
-  event = λ s position. refl;
-  listing = λ s r room. refl;
-  line = λ s r position room. refl;
-  recording = λ slot s. refl;
-  registering = λ object name s. refl;
-  removing = λ pointer s. refl;
-  formatting = λ f s. refl;
-}
+-- a number that is not 0 is that of a refusal
+told-refused : (v : Verdict) (values : List ℕ) → (toldBy v values .number ≡ 0 → ⊥) → (f : Refusal) × (v ≡ Refused f)
+told-refused (Refused f) values some = (f, refl)
+told-refused Passed values some = absurd (some refl)
 
-places : Places
-unfolding row1 row2 row3 row4 row5 row6 row7 row8 row9 row10 row11 row12 row13 row14 row15 row16 row17 row18 row19 row20 row21 row22 row23 row24 row25 recording registering removing formatting
-places = record {
-  checking = λ s. refl;
-  finding = λ s. refl;
-  event = λ s position. refl;
-  listing = λ s r room. refl;
-  line = λ s r position room. refl;
-  recording = λ slot s. refl;
-  registering = λ object name s. refl;
-  removing = λ pointer s. refl;
-  formatting = λ f s. refl;
-}
+-- so the answers of all calls tell
+checked-told : (v : Verdict) (h : Header) (n : ℕ) → checkedTold (checkedBy v h n) ≡ toldBy v (headerNumbers h ++ (n ∷ []))
+unfolding checkedTold
+checked-told (Refused f) h n = refl
+checked-told Passed h n = refl
+
+found-told : (v : Verdict) (name : Name) → foundTold (foundBy v name) ≡ toldBy v (nameNumbers name)
+unfolding foundTold
+found-told (Refused f) name = refl
+found-told Passed name = refl
+
+shown-told : (v : Verdict) (e : Event) → shownTold (shownBy v e) ≡ toldBy v (eventNumbers e)
+unfolding shownTold
+shown-told (Refused f) e = refl
+shown-told Passed e = refl
+
+listed-told : (v : Verdict) (n : ℕ) → listedTold (listedBy v n) ≡ toldBy v (n ∷ [])
+unfolding listedTold
+listed-told (Refused f) n = refl
+listed-told Passed n = refl
+
+outcome-told : (v : Verdict) (n : ℕ) → outcomeTold (outcomeBy v n) ≡ toldBy v (n ∷ [])
+unfolding outcomeTold
+outcome-told (Refused f) n = refl
+outcome-told Passed n = refl
+
+prints : (rows : List Row) (text old new : List ℕ) (said : Listed) → positive rows ≡ true → Gave rows text old new said → RefusesAndKeeps rows old new (listedTold said)
+prints rows text old new said above gave = (rw told (refuses rows (length text ∷ []) some-value above), λ some. kept (told-refused (firstBroken rows) (length text ∷ []) (rw told at some)))
+  where
+    told : listedTold said ≡ toldBy (firstBroken rows) (length text ∷ [])
+    told = ap listedTold (gave .answered) ∙ listed-told (firstBroken rows) (length text)
+
+    kept : (f : Refusal) × (firstBroken rows ≡ Refused f) → new ≡ old
+    kept (f, refused) = gave .output ∙ rw refused
+
+pub writes : (c : Change) (s : List ℕ) → positive (c .rows) ≡ true → Writes c s
+writes c s above = (rw told (refuses (c .rows) (c .gives ∷ []) some-value above), λ some. kept (told-refused (firstBroken (c .rows)) (c .gives ∷ []) (rw told at some)))
+  where
+    told : outcomeTold (said c) ≡ toldBy (firstBroken (c .rows)) (c .gives ∷ [])
+    told = outcome-told (firstBroken (c .rows)) (c .gives)
+
+    kept : (f : Refusal) × (firstBroken (c .rows) ≡ Refused f) → left c s ≡ s
+    kept (f, refused) = rw refused
 
 pub first-demand : FirstDemand
-unfolding checkOf findName eventOf
+unfolding numbersFrom open-rows open-writing-rows
+    recording registering removing formatting checkOf findName eventOf headerNumbers eventNumbers slotNumbers
 first-demand = record {
-  orders = orders;
-  places = places;
-  checking = λ s. refuses checked.Refused (λ v. check.answer v (headerOf s) (eventCount s (headerOf s))) (λ f. refl) (checked-tells _ _) (dumpRows s (headerOf s));
-  finding = λ s pointer. refuses found.Refused (λ v. searched v (nameOf s (headerOf s) pointer)) (λ f. refl) (found-tells _) (registryRows s (headerOf s));
-  event = λ s position. refuses shown.Refused (λ v. events.given v (eventAt s (headerOf s) position)) (λ f. refl) (shown-tells _) (eventRows s (headerOf s) position);
-  listing = λ s r old new said gave. prints _ _ old new said gave;
-  line = λ s r position old new said gave. prints _ _ old new said gave;
-  formatting = λ f s. writes (formatting f s) s;
-  recording = λ slot s. writes (recording slot s) s;
-  registering = λ object name s. writes (registering object name s) s;
-  removing = λ pointer s. writes (removing pointer s) s;
+  orders = record {
+    checking = λ s. refl;
+    finding = λ s. refl;
+    event = λ s position. refl;
+    listing = λ s r room. refl;
+    line = λ s r position room. refl;
+    recording = λ slot s. refl;
+    registering = λ object name s. refl;
+    removing = λ pointer s. refl;
+    formatting = λ f s. refl;
+  };
+  checking = λ s. rw (checked-told (firstBroken (dumpRows s (headerOf s))) (headerOf s) (eventCount s (headerOf s))) (refuses (dumpRows s (headerOf s)) _ some-value refl);
+  finding = λ s pointer. rw (found-told (firstBroken (registryRows s (headerOf s))) (nameOf s (headerOf s) pointer)) (refuses (registryRows s (headerOf s)) _ (name-some (nameOf s (headerOf s) pointer)) refl);
+  event = λ s position.
+      rw (shown-told (firstBroken (eventRows s (headerOf s) position)) (eventAt s (headerOf s) position)) (refuses (eventRows s (headerOf s) position) _ some-value refl);
+  listing = λ s r old new said gave. prints _ _ old new said refl gave;
+  line = λ s r position old new said gave. prints _ _ old new said refl gave;
+  formatting = λ f s. writes (formatting f s) s refl;
+  recording = λ slot s. writes (recording slot s) s refl;
+  registering = λ object name s. writes (registering object name s) s refl;
+  removing = λ pointer s. writes (removing pointer s) s refl;
 }

@@ -21,7 +21,7 @@ use Rattle.demands.proofs.JsonNumbers.{line-numbers, listing-numbers}
 use Rattle.demands.proofs.Layouts.{layouts}
 use Rattle.demands.proofs.Masks.{masks}
 use Rattle.demands.proofs.Names.{names}
-use Rattle.demands.proofs.NotRead.{not-read}
+use Rattle.demands.proofs.NotRead.{appended, not-read}
 use Rattle.demands.proofs.OneLine.{empty-ring, one-line}
 use Rattle.demands.proofs.OrderAndTime.{order-and-time}
 use Rattle.demands.proofs.Patterns.{patterns}
@@ -73,6 +73,7 @@ second-demand = record {
   order-and-time = order-and-time;
   names = names;
   not-read = not-read;
+  appended = appended;
   formats = formatting-makes;
   records = recording-leaves;
   registers = registering-leaves;

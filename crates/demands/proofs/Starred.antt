@@ -4,24 +4,17 @@ use mathlib.Core.List.{List}
 use mathlib.Core.Path.{_≡_, refl}
 use native.Mathlib.Nat.{zero-mul}
 use lib.ListN.{length}
-use Rattle.rows.specs.Lowest.{lowest, count}
 use Rattle.rows.specs.Rows.{firstBroken}
 use Rattle.text.specs.Names.{escape, escaped, hexDigit, isMarked, isPlain}
 use Rattle.text.specs.Numbers.{digits, digitsIn, isBare, number, quoted}
-use Rattle.trace.specs.Check.{checkOf}
-use Rattle.trace.specs.Layout.{headerIn, slotSize}
-use Rattle.trace.specs.Registry.{isInUse, isAllowedType, isWantedAt}
-use Rattle.trace.specs.Slots.{isFault}
-use Rattle.trace.specs.Table.{row1, row2, row3, row4, row5, row6, row7, row8, row9, row10, row11, row12, row13}
+use Rattle.trace.specs.Layout.{slotSize}
+use Rattle.trace.specs.Table.{row2}
 use Rattle.trace.specs.Times.{gap, microseconds}
 use Rattle.words.proofs.Circles.{minus-same}
-use Rattle.words.specs.Masks.{width, widthTo}
-use Rattle.words.specs.Offsets.{minus}
-use Rattle.words.specs.Words.{bytesAt, lowestFirst, joined, split, numberAt, numberBytes}
+use Rattle.words.specs.Masks.{width}
 use Rattle.words.specs.declared.Order.{Order}
 use Rattle.words.specs.declared.Order.the-variants.{Big, Little}
-use Rattle.words.specs.Fields.{fieldBytes}
-use Rattle.writing.specs.Bytes.{freeEntries, freeEntry, headerBytes}
+use Rattle.writing.proofs.Opened.{open-writing}
 use Rattle.writing.specs.Table.{row24}
 use Rattle.writing.specs.Writing.{formatting, freshHeader, said}
 use Rattle.writing.specs.declared.Outcome.the-variants as outcome
@@ -38,6 +31,6 @@ unfolding firstBroken slotSize row2 row24 formatting freshHeader noEntries
 seventy-nine o base mask size s allowed e = rw (e, allowed .0, allowed .1, zero-mul) refl
 
 pub starred : (o : Order) → Starred o
-unfolding widthTo minus bytesAt lowestFirst joined split numberAt numberBytes lowest count firstBroken checkOf headerIn slotSize isInUse isAllowedType isWantedAt isFault row1 row2 row3 row4 row5 row6 row7 row8 row9 row10 row11 row12 row13 row24 topHeader fieldBytes freeEntries freeEntry headerBytes topDump formatting freshHeader noEntries gap microseconds escape escaped hexDigit isMarked isPlain digits digitsIn isBare number quoted
+unfolding open-writing topHeader topDump noEntries gap microseconds escape escaped hexDigit isMarked isPlain digits digitsIn isBare number quoted
 starred Big = record { mask-0x1 = refl; mask-0xFFFFFFFF = refl; mask-0 = refl; mask-0x5 = refl; mask-0xFF00 = refl; end-pointer-0 = refl; end-offset-256 = refl; eighty-bytes-one-slot = eighty Big; seventy-nine-bytes-24 = seventy-nine Big; gap-65500-20 = refl; gap-equal = λ mask stamp. minus-same (width mask) stamp; bare-at-9007199254-ticks = refl; quoted-at-9007199255-ticks = refl; name-41-22-0A = refl }
 starred Little = record { mask-0x1 = refl; mask-0xFFFFFFFF = refl; mask-0 = refl; mask-0x5 = refl; mask-0xFF00 = refl; end-pointer-0 = refl; end-offset-256 = refl; eighty-bytes-one-slot = eighty Little; seventy-nine-bytes-24 = seventy-nine Little; gap-65500-20 = refl; gap-equal = λ mask stamp. minus-same (width mask) stamp; bare-at-9007199254-ticks = refl; quoted-at-9007199255-ticks = refl; name-41-22-0A = refl }

@@ -12,11 +12,11 @@ use Rattle.events.specs.declared.Listed.{Listed}
 use Rattle.events.specs.declared.Listed.the-variants.{Written}
 use Rattle.events.specs.declared.Reading.{Reading}
 use Rattle.rows.proofs.Rows.{then-rest}
-use Rattle.rows.specs.Rows.{firstBroken}
+use Rattle.rows.specs.Rows.{Accepted, firstBroken}
 use Rattle.rows.specs.declared.Verdict.the-variants.{Passed}
 use Rattle.trace.proofs.Checks.{check-passed}
 use Rattle.trace.proofs.InTurn.{sound-turn}
-use Rattle.trace.proofs.Passed.{header-passed, mask-wide, registry-passed}
+use Rattle.trace.proofs.Passed.{mask-wide}
 use Rattle.trace.specs.Layout.{headerOf, currentSlot}
 use Rattle.trace.specs.Slots.{slotIn}
 use Rattle.trace.specs.Table.{dumpRows, row14, row15, row16}
@@ -24,14 +24,14 @@ use Rattle.trace.specs.Times.{stampOf}
 use Rattle.trace.specs.declared.Checked.the-variants.{Sound}
 use Rattle.trace.specs.declared.Slot.{Slot}
 use Rattle.writing.proofs.Fresh.{fresh-header}
-use Rattle.writing.specs.Writing.{answer, cut, formatting, freshEnd, freshHeader, freshSlots, left, recording, said}
+use Rattle.writing.specs.Writing.{cut, formatting, freshEnd, freshHeader, freshSlots, left, recording, said}
 use Rattle.writing.specs.declared.Format.{Format}
 use Rattle.writing.specs.declared.Outcome.the-variants as outcome
 use Rattle.demands.specs.Demands.{Shows, ThirdDemand}
 use Rattle.demands.specs.History.{NeverBack, Write, acceptedWrites, after, given, lastOf, timeAt, wholeRanges}
 use Rattle.demands.specs.Masks.{range}
 use Rattle.demands.specs.Shown.{ReadingAccepted, linesOf, shownTicks}
-use Rattle.demands.specs.Writings.{Accepted, Formatted}
+use Rattle.demands.specs.Writings.{Formatted}
 use Rattle.demands.proofs.Answers.{done-is}
 use Rattle.demands.proofs.History.{Holds, calls-hold, noWrite}
 use Rattle.demands.proofs.OrderAndTime.{not-above, not-below}
@@ -52,7 +52,7 @@ fresh-holds f s n word done = (
   },
 )
   where
-    passed : Accepted (formatting f s)
+    passed : Accepted (formatting f s .rows)
     passed = done-is (firstBroken (formatting f s .rows)) (formatting f s .gives) n done .0
 
     slots : freshSlots f (length s) ≡ n
@@ -99,7 +99,7 @@ module _ (mask k n : ℕ) (ws : List Write) (t : List ℕ) (some : 0 < n) (many 
   unfolding slotIn cut given
   stamps p below =
       ap (λ (slot : Slot). slot .stamp) (words-are some holds p (rw (last-length some holds) at below))
-      ∙ stamp-cut (headerOf t .mask) (getD (lastOf n ws) p noWrite .time) (mask-wide (headerOf t) (length t) (header-passed t (headerOf t) (registry-passed t (headerOf t) passed)))
+      ∙ stamp-cut (headerOf t .mask) (getD (lastOf n ws) p noWrite .time) (mask-wide (headerOf t) (length t) _ passed)
       ∙ ap (λ (time : ℕ). time % range (headerOf t .mask)) (time-of (lastOf n ws) p)
 
   accepts : (r : Reading) (room : ℕ) → ReadingAccepted r (min (length ws) n) → length (linesOf t r (lastOf n ws)) ≤ room → firstBroken (listingRows t (headerOf t) r room) ≡ Passed
@@ -129,7 +129,7 @@ module _ (mask k n : ℕ) (ws : List Write) (t : List ℕ) (some : 0 < n) (many 
   }
 
 pub third-demand : ThirdDemand recording
-third-demand k n f s calls word done typed many =
+third-demand k n f s calls word done typed none many =
     let fresh = fresh-holds f s n word done in
     shows (f .mask) k n (acceptedWrites recording calls (left (formatting f s) s)) (after recording calls (left (formatting f s) s)) (fresh .0) many
-    (calls-hold n (f .mask) (fresh .0) calls [] (left (formatting f s) s) typed (fresh .1))
+    (calls-hold n (f .mask) (fresh .0) calls [] (left (formatting f s) s) typed none (fresh .1))

@@ -6,27 +6,23 @@ use native.Mathlib.Nat.{zero-add}
 use native.Mathlib.Omega.{arith}
 use lib.ListN.{length, replicate}
 use lib.Seq.{sets, sets-eq, drop-length}
-use Rattle.rows.specs.Lowest.{lowest}
 use Rattle.rows.specs.Rows.{firstBroken}
 use Rattle.rows.specs.declared.Verdict.the-variants.{Passed}
 use Rattle.text.specs.Ascii.{ascii}
-use Rattle.trace.specs.Layout.{headerIn, slotSize, withCurrent}
-use Rattle.trace.specs.Registry.{isInUse, isAllowedType, isWantedAt}
-use Rattle.trace.specs.Table.{row1, row2, row3, row4, row5, row6, row7, row8, row9, row10}
-use Rattle.words.specs.Fields.{fieldBytes}
+use Rattle.trace.specs.Layout.{slotSize, withCurrent}
+use Rattle.trace.specs.Table.{row2, row4, row5}
 use Rattle.words.specs.Masks.{widthTo}
-use Rattle.words.specs.Offsets.{minus, pointerTo}
-use Rattle.words.specs.Words.{bytesAt, lowestFirst, joined, split, numberAt, numberBytes, putNumber}
 use Rattle.words.specs.declared.Order.{Order}
 use Rattle.words.specs.declared.Order.the-variants.{Big, Little}
+use Rattle.writing.proofs.Opened.{open-writing}
 use Rattle.writing.proofs.Answers.{by-passing}
 use Rattle.writing.proofs.FreshBytes.{fresh-length}
-use Rattle.writing.specs.Bytes.{entryBytes, fitted, freeEntries, freeEntry, headerBytes, slotBytes}
-use Rattle.writing.specs.Table.{row17, row18, row19, row20, row21, row23, row24}
-use Rattle.writing.specs.Writing.{Change, cut, formatting, freshBytes, freshHeader, left, recording, registering, said}
+use Rattle.writing.specs.Bytes.{entryBytes, freeEntry, headerBytes, slotBytes}
+use Rattle.writing.specs.Table.{row24}
+use Rattle.writing.specs.Writing.{Change, formatting, freshBytes, freshHeader, left, recording, registering, said}
 use Rattle.writing.specs.declared.Outcome.the-variants.{Done}
 use Rattle.demands.specs.Each.{Each}
-use Rattle.demands.specs.History.{NeverBack, Typed, acceptedWrites, after, given}
+use Rattle.demands.specs.History.{NeverBack, NoneFormats, Typed, acceptedWrites, after, given}
 use Rattle.demands.specs.WholeCase.{firstWrite, fourWrites, fourthWrite, middle, newest, oldest, pump, secondWrite, thirdWrite, wholeCalls, wholeDump, wholeFormat, wholeFresh, wholeHeader}
 use Rattle.demands.proofs.Typed.{given-words}
 
@@ -61,7 +57,7 @@ over-all : (vs s : List ℕ) → length vs ≡ length s → sets s 0 vs ≡ vs
 over-all vs s long = sets-eq vs s 0 (omega arith) ∙ rw (zero-add, long, drop-length) (append-nil vs)
 
 fresh : (o : Order) → freshBytes (wholeFormat o) 168 ≡ fresh-dump o
-unfolding minus pointerTo lowestFirst split numberBytes fieldBytes slotSize headerBytes freeEntries freeEntry freshBytes freshHeader wholeHeader wholeFormat dump unused
+unfolding open-writing wholeHeader wholeFormat dump unused
 fresh Big = refl
 fresh Little = refl
 
@@ -88,7 +84,7 @@ record Steps (o : Order) : Type 0 where
   fourth : Did (recording (given fourthWrite)) (with-third o) 0 (wholeDump o)
 
 steps : (o : Order) → Steps o
-unfolding widthTo minus pointerTo bytesAt lowestFirst joined split numberAt numberBytes putNumber fieldBytes lowest firstBroken headerIn slotSize isInUse isAllowedType isWantedAt row1 row2 row3 row4 row5 row6 row7 row8 row9 row10 row17 row18 row19 row20 row21 row23 headerBytes entryBytes fitted freeEntry slotBytes cut recording registering given firstWrite secondWrite thirdWrite fourthWrite wholeHeader pump oldest middle newest wholeDump dump unused named
+unfolding open-writing given firstWrite secondWrite thirdWrite fourthWrite wholeHeader pump oldest middle newest wholeDump dump unused named
 steps Big = record { pumped = (refl, refl); first = (refl, refl); second = (refl, refl); third = (refl, refl); fourth = (refl, refl) }
 steps Little = record { pumped = (refl, refl); first = (refl, refl); second = (refl, refl); third = (refl, refl); fourth = (refl, refl) }
 
@@ -101,6 +97,9 @@ three-slots o s e = sym (by-passing (formatting (wholeFormat o) s) s (format-pas
 pub calls-typed : Each Typed wholeCalls
 unfolding pump firstWrite secondWrite thirdWrite fourthWrite
 calls-typed = (omega arith, (given-words firstWrite refl, (given-words secondWrite refl, (given-words thirdWrite refl, (given-words fourthWrite refl, tt)))))
+
+pub none-formats : (s : List ℕ) → NoneFormats recording wholeCalls s
+none-formats s = (tt, (tt, (tt, (tt, (tt, tt)))))
 
 pub times-rise : NeverBack fourWrites
 unfolding firstWrite secondWrite thirdWrite fourthWrite

@@ -3,6 +3,7 @@ use Prim.Native.Nat.{ℕ, suc, _^_, _<_, min}
 use mathlib.Core.List.{List}
 use mathlib.Core.Path.{_≡_, sym, ap, _∙_}
 use lib.ListN.{length}
+use Rattle.rows.specs.Rows.{Accepted}
 use Rattle.trace.specs.Layout.{headerOf, currentSlot, slotCount, withCurrent}
 use Rattle.trace.specs.declared.Checked.the-variants.{Sound}
 use Rattle.trace.specs.declared.Header.{Header}
@@ -15,9 +16,9 @@ use Rattle.writing.specs.Arguments.{IsSlot}
 use Rattle.writing.specs.Writing.{formatting, freshEnd, freshHeader, left, nextPointer, recording, registering, removing}
 use Rattle.writing.specs.declared.Format.{Format}
 use Rattle.writing.specs.declared.Object.{Object}
-use Rattle.demands.specs.Writings.{Accepted, Formatted, Recorded, Registered, Removed}
+use Rattle.demands.specs.Writings.{Formatted, Recorded, Registered, Removed}
 
-pub formatting-makes : (f : Format) (s : List ℕ) → f .base < 2 ^ 32 → Accepted (formatting f s)
+pub formatting-makes : (f : Format) (s : List ℕ) → f .base < 2 ^ 32 → Accepted (formatting f s .rows)
     → Formatted f s (left (formatting f s) s) (freshHeader f (freshEnd f (length s)))
 formatting-makes f s base accepted = record {
   bytes = fresh-bytes f s accepted;
@@ -34,7 +35,7 @@ formatting-makes f s base accepted = record {
   one-each = fresh-one-each f s accepted base;
 }
 
-pub recording-leaves : (slot : Slot) (s : List ℕ) → IsSlot slot → Accepted (recording slot s) → Recorded slot s (left (recording slot s) s) (headerOf s)
+pub recording-leaves : (slot : Slot) (s : List ℕ) → IsSlot slot → Accepted (recording slot s .rows) → Recorded slot s (left (recording slot s) s) (headerOf s)
 recording-leaves slot s words accepted = record {
   this = recorded-slot slot s accepted words;
   others = recorded-others slot s accepted;
@@ -50,7 +51,7 @@ recording-leaves slot s words accepted = record {
     header : headerOf (left (recording slot s) s) ≡ withCurrent (headerOf s) (nextPointer (headerOf s))
     header = recorded-header slot s accepted
 
-pub registering-leaves : (object : Object) (name s : List ℕ) → object .pointer < 2 ^ 32 → Accepted (registering object name s)
+pub registering-leaves : (object : Object) (name s : List ℕ) → object .pointer < 2 ^ 32 → Accepted (registering object name s .rows)
     → Registered object name s (left (registering object name s) s) (headerOf s)
 registering-leaves object name s word accepted = record {
   size = registered-size object name s accepted;
@@ -67,7 +68,7 @@ registering-leaves object name s word accepted = record {
   one-each = registered-one-each object name s accepted word;
 }
 
-pub removing-leaves : (pointer : ℕ) (s : List ℕ) → Accepted (removing pointer s) → Removed pointer s (left (removing pointer s) s) (headerOf s)
+pub removing-leaves : (pointer : ℕ) (s : List ℕ) → Accepted (removing pointer s .rows) → Removed pointer s (left (removing pointer s) s) (headerOf s)
 removing-leaves pointer s accepted = record {
   size = removed-size pointer s accepted;
   untouched = removed-untouched pointer s accepted;

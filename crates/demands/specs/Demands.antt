@@ -3,55 +3,52 @@ use Prim.Native.Nat.{ℕ, suc, _+_, _*_, _^_, _≤_, _<_, min}
 use mathlib.Core.List.{List, [], _∷_, _++_, map}
 use mathlib.Core.Path.{_≡_}
 use lib.ListN.{drop, length, take}
-use Rattle.events.specs.Events.{eventAt, eventOf}
-use Rattle.events.specs.Listing.{Gave, fields, lineAt, lineRows, listingRows, listingText}
+use Rattle.events.specs.Events.{eventAt, eventOf, shownTold}
+use Rattle.events.specs.Listing.{Gave, fields, lineAt, lineRows, listedTold, listingRows, listingText}
 use Rattle.events.specs.declared.Listed.{Listed}
 use Rattle.events.specs.declared.Listed.the-variants as listed
 use Rattle.events.specs.declared.Reading.{Reading}
-use Rattle.events.specs.declared.Shown.the-variants as shown
-use Rattle.rows.specs.Rows.{firstBroken}
-use Rattle.rows.specs.declared.Verdict.the-variants.{Passed}
+use Rattle.rows.specs.Rows.{Accepted}
 use Rattle.text.specs.Numbers.{digits, isBare}
-use Rattle.trace.specs.Check.{checkOf}
+use Rattle.trace.specs.Check.{checkOf, checkedTold}
 use Rattle.trace.specs.Layout.{headerOf}
-use Rattle.trace.specs.Names.{findName}
+use Rattle.trace.specs.Names.{findName, foundTold}
 use Rattle.trace.specs.Ring.{keep}
 use Rattle.trace.specs.Slots.{eventCount}
 use Rattle.trace.specs.Table.{dumpRows, eventRows, registryRows}
 use Rattle.trace.specs.declared.Checked.the-variants as checked
-use Rattle.trace.specs.declared.Found.the-variants as found
 use Rattle.trace.specs.declared.Header.{Header}
 use Rattle.trace.specs.declared.Slot.{Slot}
 use Rattle.words.specs.Words.{AreBytes}
 use Rattle.writing.specs.Arguments.{IsSlot}
-use Rattle.writing.specs.Writing.{Change, formatting, freshEnd, freshHeader, left, recording, registering, removing, said}
+use Rattle.writing.specs.Writing.{Change, formatting, freshEnd, freshHeader, left, outcomeTold, recording, registering, removing, said}
 use Rattle.writing.specs.declared.Format.{Format}
 use Rattle.writing.specs.declared.Object.{Object}
 use Rattle.writing.specs.declared.Outcome.the-variants as outcome
 use Rattle.demands.specs.BareNumbers.{BareNumbers}
 use Rattle.demands.specs.Each.{Each}
 use Rattle.demands.specs.Gives.{Gives}
-use Rattle.demands.specs.History.{Call, NeverBack, Typed, Write, acceptedWrites, after, lastOf, sinceOldest, trueGap, wholeRanges}
+use Rattle.demands.specs.History.{Call, NeverBack, NoneFormats, Typed, Write, acceptedWrites, after, lastOf, sinceOldest, trueGap, wholeRanges}
 use Rattle.demands.specs.JsonNumbers.{jsonNumbers, listedNumbers, numbersOf}
 use Rattle.demands.specs.Keys.{Keys}
 use Rattle.demands.specs.Layouts.{Layouts}
 use Rattle.demands.specs.Masks.{Masks, range}
 use Rattle.demands.specs.Names.{Names}
-use Rattle.demands.specs.NotRead.{DifferOnlyThere, SameAnswers}
+use Rattle.demands.specs.NotRead.{DifferOnlyThere, SameAnswers, Whole}
 use Rattle.demands.specs.Offsets.{Offsets}
 use Rattle.demands.specs.OrderAndTime.{OrderAndTime}
 use Rattle.demands.specs.Patterns.{Patterns}
-use Rattle.demands.specs.Refusals.{Orders, Places, Refuses, RefusesAndKeeps}
+use Rattle.demands.specs.Refusals.{Orders, Refuses, RefusesAndKeeps}
 use Rattle.demands.specs.Shown.{ReadingAccepted, linesOf, shownMicroseconds, shownTicks}
 use Rattle.demands.specs.Texts.{Texts}
 use Rattle.demands.specs.Turns.{Turns}
-use Rattle.demands.specs.Writings.{Accepted, Formatted, Recorded, Registered, Removed}
+use Rattle.demands.specs.Writings.{Formatted, Recorded, Registered, Removed}
 
 -- THE FIRST DEMAND
 
 -- a call that writes into a buffer s
 abbrev pub Writes : Change → List ℕ → Type 0
-Writes c s = RefusesAndKeeps outcome.Refused (c .rows) s (left c s) (said c)
+Writes c s = RefusesAndKeeps (c .rows) s (left c s) (outcomeTold (said c))
 
 -- "Any bytes and any arguments get an answer." "No caller is asked to have checked anything." That nothing is asked is said of the contracts themselves:
 -- `asks-nothing` in `library` (`contracts`). That each function then ends, with an answer that its contract allows, is what its own proof says.
@@ -59,18 +56,17 @@ Writes c s = RefusesAndKeeps outcome.Refused (c .rows) s (left c s) (said c)
 pub record FirstDemand : Type 0 where
   -- the rows that each call checks, by their numbers and places
   pub orders : Orders
-  pub places : Places
   -- calls that are lent a dump to be read
-  pub checking : (s : List ℕ) → Refuses checked.Refused (dumpRows s (headerOf s)) (checkOf s)
-  pub finding : (s : List ℕ) (pointer : ℕ) → Refuses found.Refused (registryRows s (headerOf s)) (findName s pointer)
-  pub event : (s : List ℕ) (position : ℕ) → Refuses shown.Refused (eventRows s (headerOf s) position) (eventOf s position)
+  pub checking : (s : List ℕ) → Refuses (dumpRows s (headerOf s)) (checkedTold (checkOf s))
+  pub finding : (s : List ℕ) (pointer : ℕ) → Refuses (registryRows s (headerOf s)) (foundTold (findName s pointer))
+  pub event : (s : List ℕ) (position : ℕ) → Refuses (eventRows s (headerOf s) position) (shownTold (eventOf s position))
   -- calls that are lent output too
   pub listing : (s : List ℕ) (r : Reading) (old new : List ℕ) (answer : Listed)
       → Gave (listingRows s (headerOf s) r (length old)) (listingText s (headerOf s) r) old new answer
-      → RefusesAndKeeps listed.Refused (listingRows s (headerOf s) r (length old)) old new answer
+      → RefusesAndKeeps (listingRows s (headerOf s) r (length old)) old new (listedTold answer)
   pub line : (s : List ℕ) (r : Reading) (position : ℕ) (old new : List ℕ) (answer : Listed)
       → Gave (lineRows s (headerOf s) r position (length old)) (lineAt s (headerOf s) r position) old new answer
-      → RefusesAndKeeps listed.Refused (lineRows s (headerOf s) r position (length old)) old new answer
+      → RefusesAndKeeps (lineRows s (headerOf s) r position (length old)) old new (listedTold answer)
   -- calls that are lent a buffer to be written
   pub formatting : (f : Format) (s : List ℕ) → Writes (formatting f s) s
   pub recording : (slot : Slot) (s : List ℕ) → Writes (recording slot s) s
@@ -88,17 +84,20 @@ pub record SecondDemand : Type 0 where
   pub masks : Masks
   pub offsets : Offsets
   pub turns : (s : List ℕ) (h : Header) → Turns s h
-  pub order-and-time : (s : List ℕ) (h : Header) → firstBroken (dumpRows s h) ≡ Passed → OrderAndTime s h
+  pub order-and-time : (s : List ℕ) (h : Header) → Accepted (dumpRows s h) → OrderAndTime s h
   pub names : (s : List ℕ) → Names s
   -- reserved fields and bytes past the buffer end are not read
   pub not-read : (s t : List ℕ) → DifferOnlyThere s t → SameAnswers s t
+  -- so bytes appended past both ends change no answer of the calls that read, nor what recording, registering and removing say, as long as the whole
+  -- stays at most 65,536 bytes
+  pub appended : (s more : List ℕ) → Whole (headerOf s) (length s) → length (s ++ more) ≤ 65536 → SameAnswers s (s ++ more)
   -- what the writer leaves, arguments having the width that their types say
-  pub formats : (f : Format) (s : List ℕ) → f .base < 2 ^ 32 → Accepted (formatting f s)
+  pub formats : (f : Format) (s : List ℕ) → f .base < 2 ^ 32 → Accepted (formatting f s .rows)
       → Formatted f s (left (formatting f s) s) (freshHeader f (freshEnd f (length s)))
-  pub records : (slot : Slot) (s : List ℕ) → IsSlot slot → Accepted (recording slot s) → Recorded slot s (left (recording slot s) s) (headerOf s)
-  pub registers : (object : Object) (name s : List ℕ) → object .pointer < 2 ^ 32 → Accepted (registering object name s)
+  pub records : (slot : Slot) (s : List ℕ) → IsSlot slot → Accepted (recording slot s .rows) → Recorded slot s (left (recording slot s) s) (headerOf s)
+  pub registers : (object : Object) (name s : List ℕ) → object .pointer < 2 ^ 32 → Accepted (registering object name s .rows)
       → Registered object name s (left (registering object name s) s) (headerOf s)
-  pub removes : (pointer : ℕ) (s : List ℕ) → Accepted (removing pointer s) → Removed pointer s (left (removing pointer s) s) (headerOf s)
+  pub removes : (pointer : ℕ) (s : List ℕ) → Accepted (removing pointer s .rows) → Removed pointer s (left (removing pointer s) s) (headerOf s)
   -- what the calls give
   pub gives : Gives
   -- "The listing is the one text that 01 defines,": its length is given, it stands in the output, and output past it keeps its bytes
@@ -154,14 +153,14 @@ pub record Shows (mask k n : ℕ) (writes : List Write) (t : List ℕ) : Type 0 
   pub one-more : (r : Reading) (p : ℕ) → 1 ≤ r .rate → shownTicks t p * 1000000 < suc (shownMicroseconds t r p) * r .rate
 
 -- "Take a freshly formatted buffer of n slots and k accepted writes at true times that never go back, each write given its time modulo two to the 32;
--- refused calls, registrations and removals may come between." (That true times never go back is asked only where times are shown. Calls that read, and a
--- formatting that is refused, are not among `calls`: they leave every byte of the buffer, by their type and by `FirstDemand`.)
+-- refused calls, registrations and removals may come between." (That true times never go back is asked only where times are shown. A formatting that is
+-- accepted begins a new history.)
 abbrev pub ThirdDemandAt : ℕ → ℕ → (Slot → List ℕ → Change) → Type 0
 ThirdDemandAt k n recorder =
     (f : Format) (s : List ℕ) (calls : List Call) → f .base < 2 ^ 32 → said (formatting f s) ≡ outcome.Done n → Each Typed calls
     → let fresh = left (formatting f s) s in
     let writes = acceptedWrites recorder calls fresh in
-    length writes ≡ k → Shows (f .mask) k n writes (after recorder calls fresh)
+    NoneFormats recorder calls fresh → length writes ≡ k → Shows (f .mask) k n writes (after recorder calls fresh)
 
 abbrev pub ThirdDemand : (Slot → List ℕ → Change) → Type 0
 ThirdDemand recorder = (k n : ℕ) → ThirdDemandAt k n recorder

@@ -1,7 +1,7 @@
 -- The fakes that document 01 names: each breaks a promise or a demand.
 use Prim.Native.Nat.{ℕ}
 use mathlib.Core.Bool.{cond}
-use mathlib.Core.List.{List}
+use mathlib.Core.List.{List, []}
 use mathlib.Core.Path.{_≡_}
 use lib.Dec.{eqb}
 use lib.ListN.{length}
@@ -9,13 +9,13 @@ use Rattle.events.specs.Listing.{Gave, listingRows, listingText}
 use Rattle.events.specs.declared.Listed.the-variants.{Written}
 use Rattle.events.specs.declared.Reading.{Reading}
 use Rattle.rows.specs.Rows.{firstBroken}
-use Rattle.rows.specs.declared.Refusal.{Refusal}
+use Rattle.rows.specs.Told.{Told}
 use Rattle.rows.specs.declared.Verdict.the-variants.{Passed}
-use Rattle.trace.specs.Check.{answer, checkOf}
+use Rattle.trace.specs.Check.{checkedBy, checkOf}
 use Rattle.trace.specs.Layout.{headerOf, currentSlot}
 use Rattle.trace.specs.Slots.{eventCount}
 use Rattle.trace.specs.Table.{dumpRows}
-use Rattle.trace.specs.declared.Checked.the-variants.{Refused, Sound}
+use Rattle.trace.specs.declared.Checked.the-variants.{Sound}
 use Rattle.trace.specs.declared.Header.{Header}
 use Rattle.trace.specs.declared.Slot.{Slot}
 use Rattle.words.specs.Words.{putWord}
@@ -23,9 +23,9 @@ use Rattle.writing.specs.Writing.{Change, left, nextPointer, recorded, recordin
 use Rattle.demands.specs.Demands.{ThirdDemand, ThirdDemandAt}
 use Rattle.demands.specs.Refusals.{Refuses}
 
--- a reader that refuses everything
+-- a reader that refuses everything, and so never gives a value
 abbrev pub RefusesEverything : Type 0
-RefusesEverything = (s : List ℕ) → (f : Refusal) × Refuses Refused (dumpRows s (headerOf s)) (Refused f)
+RefusesEverything = (s : List ℕ) → (told : Told) × (told .values ≡ []) × Refuses (dumpRows s (headerOf s)) told
 
 -- one that refuses as it should, and otherwise lists nothing
 abbrev pub ListsNothing : Type 0
@@ -47,7 +47,7 @@ firstOnly = leaving (λ s h slot. cond (eqb (currentSlot h) 0) (recorded s h slo
 
 -- a check that is right but for its event count
 abbrev pub CountsAs : (List ℕ → ℕ) → Type 0
-CountsAs invented = (s : List ℕ) → checkOf s ≡ answer (firstBroken (dumpRows s (headerOf s))) (headerOf s) (invented s)
+CountsAs invented = (s : List ℕ) → checkOf s ≡ checkedBy (firstBroken (dumpRows s (headerOf s))) (headerOf s) (invented s)
 
 pub record Fakes : Type 0 where
   pub refuses-everything : RefusesEverything → ⊥

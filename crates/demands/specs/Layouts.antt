@@ -5,7 +5,7 @@ use mathlib.Core.List.{List, _++_}
 use mathlib.Core.Path.{_≡_}
 use lib.ListN.{drop, getD, length, replicate, take}
 use lib.Seq.{sets}
-use Rattle.trace.specs.Layout.{headerOf, headerSize}
+use Rattle.trace.specs.Layout.{headerOf, headerSize, nameOffset}
 use Rattle.trace.specs.Registry.{isInUse, pointerAt, typeAt}
 use Rattle.trace.specs.Slots.{slotIn}
 use Rattle.trace.specs.declared.Header.{Header}
@@ -28,14 +28,14 @@ pub record EntryRead (o : Order) (object : Object) (name : List ℕ) (size : ℕ
   pub parameter-one : wordAt o t (at + 8) ≡ object .«parameter_one»
   pub parameter-two : wordAt o t (at + 12) ≡ object .«parameter_two»
   -- the name, cut to the name size and padded with zeros
-  pub name-bytes : take size (drop (at + 16) t) ≡ take size name ++ replicate (size - length name) 0
+  pub name-bytes : take size (drop (at + nameOffset) t) ≡ take size name ++ replicate (size - length name) 0
 
 pub record Layouts : Type 0 where
   -- a header at the front of a buffer, with its byte order; its reserved fields are 0
   pub header : (h : Header) (s : List ℕ) → IsHeader h → headerSize ≤ length s → headerOf (sets s 0 (headerBytes h)) ≡ h
   pub reserved : (h : Header) (s : List ℕ) → headerSize ≤ length s → (i : ℕ) → ReservedInHeader i → getD (sets s 0 (headerBytes h)) i 0 ≡ 0
   -- an entry in use, and a free one, which has flag 1 and otherwise zeros
-  pub entry : (o : Order) (object : Object) (name s : List ℕ) (size at : ℕ) → IsObject object → at + (16 + size) ≤ length s
+  pub entry : (o : Order) (object : Object) (name s : List ℕ) (size at : ℕ) → IsObject object → at + (nameOffset + size) ≤ length s
       → EntryRead o object name size (sets s at (entryBytes o size object name)) at
   pub free : (s : List ℕ) (size at : ℕ) → at + size ≤ length s → 1 ≤ size
       → let t = sets s at (freeEntry size) in

@@ -17,6 +17,8 @@ pub mod Refusals
 pub mod Shown
 pub mod Starred
 pub mod Texts
+pub mod Told
 pub mod Turns
 pub mod WholeCase
 pub mod Writings
+pub mod Wrong

@@ -11,8 +11,8 @@ use Rattle.events.specs.declared.Shown.{Shown}
 use Rattle.events.specs.declared.Shown.the-variants as shown
 use Rattle.rows.specs.declared.Refusal.{Refusal}
 use Rattle.text.specs.declared.Context.the-variants.{Init, Isr, Thread}
-use Rattle.trace.specs.Layout.{headerOf, entryAt, entryCount}
-use Rattle.trace.specs.Names.{findName, nameFound, nameOf, nameSize, nameStart}
+use Rattle.trace.specs.Layout.{headerOf, entryAt, entryCount, nameOffset}
+use Rattle.trace.specs.Names.{findName, nameFound, nameOf, nameLength, nameStart}
 use Rattle.trace.specs.Registry.{isInUse, pointerAt, typeAt}
 use Rattle.trace.specs.declared.Found.the-variants as found
 use Rattle.trace.specs.declared.Header.{Header}
@@ -31,7 +31,7 @@ pub record Lowest (s : List ℕ) (h : Header) (pointer i : ℕ) : Type 0 where
 
 -- a name begins at an entry's 16 and runs to its first zero byte or the name size
 pub record Extends (s : List ℕ) (h : Header) (i at size : ℕ) : Type 0 where
-  pub begins : at ≡ entryAt h i + 16
+  pub begins : at ≡ entryAt h i + nameOffset
   pub no-zero : (k : ℕ) → k < size → getD s (at + k) 0 ≡ 0 → ⊥
   pub ends : (size ≡ h .«name_size») ⊎ ((size < h .«name_size») × (getD s (at + size) 0 ≡ 0))
 
@@ -41,7 +41,7 @@ nameShown (shown.Refused f) = Nameless
 nameShown (shown.Given event) = event .name
 
 abbrev pub LiesWithin : Name → List ℕ → Type 0
-LiesWithin name s = nameStart name + nameSize name ≤ length s
+LiesWithin name s = nameStart name + nameLength name ≤ length s
 
 pub record Names (s : List ℕ) : Type 0 where
   -- the name for a pointer is that of the lowest in-use entry of type 1 with it; where there is none, no entry is such
@@ -52,8 +52,8 @@ pub record Names (s : List ℕ) : Type 0 where
   -- it lies within the dump, whatever the bytes; where there is none, and in a refusal, its length is 0 (that the part handed back is this one: `calls` in
   -- `contracts`)
   pub within : (pointer : ℕ) → LiesWithin (nameFound (findName s pointer)) s
-  pub none-empty : (pointer : ℕ) → findName s pointer ≡ found.Searched Nameless → nameSize (nameFound (findName s pointer)) ≡ 0
-  pub refused-empty : (pointer : ℕ) (f : Refusal) → findName s pointer ≡ found.Refused f → nameSize (nameFound (findName s pointer)) ≡ 0
+  pub none-empty : (pointer : ℕ) → findName s pointer ≡ found.Searched Nameless → nameLength (nameFound (findName s pointer)) ≡ 0
+  pub refused-empty : (pointer : ℕ) (f : Refusal) → findName s pointer ≡ found.Refused f → nameLength (nameFound (findName s pointer)) ≡ 0
   -- an event's context is by its thread pointer: 0xF0F0F0F0 is "init", 0xFFFFFFFF is "isr", others "thread"
   pub init : contextOf 0xF0F0F0F0 ≡ Init
   pub isr : contextOf 0xFFFFFFFF ≡ Isr

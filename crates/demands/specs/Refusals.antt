@@ -3,15 +3,16 @@ use Prim.Native.Nat.{ℕ}
 use mathlib.Core.Bool.{true, false}
 use mathlib.Core.List.{List, [], _∷_, _++_, map}
 use mathlib.Core.Path.{_≡_}
-use lib.ListN.{replicate}
 use Rattle.rows.specs.Lowest.{lowest}
-use Rattle.rows.specs.Rows.{Row}
+use Rattle.rows.specs.Rows.{Row, refusal}
+use Rattle.rows.specs.Told.{Told, toldRefusal}
 use Rattle.rows.specs.declared.Refusal.{Refusal}
 use Rattle.trace.specs.Layout.{headerOf, slotCount}
 use Rattle.trace.specs.Ring.{numbersFrom}
 use Rattle.trace.specs.Slots.{isAtFault}
 use Rattle.trace.specs.Table.{dumpRows, eventRows, registryRows}
 use Rattle.trace.specs.declared.Fault.the-variants.{NoId, OutOfTurn}
+use Rattle.trace.specs.declared.Header.{Header}
 use Rattle.trace.specs.declared.Slot.{Slot}
 use Rattle.trace.specs.declared.Wanted.the-variants.{BadType, InUse}
 use Rattle.events.specs.Listing.{lineRows, listingRows}
@@ -22,62 +23,64 @@ use Rattle.writing.specs.declared.Format.{Format}
 use Rattle.writing.specs.declared.Object.{Object}
 use Rattle.demands.specs.Each.{Each}
 
+abbrev pub Unbroken : Row → Type 0
+Unbroken r = r .broken ≡ false
+
 -- the rows are some that are not broken, then one that is, whose number and place are the refusal's, then more
 pub record FirstBroken (rows : List Row) (f : Refusal) : Type 0 where
   pub before : List Row
   pub this : Row
   pub more : List Row
   pub all : rows ≡ before ++ (this ∷ more)
-  pub kept : Each (λ r. r .broken ≡ false) before
+  pub kept : Each Unbroken before
   pub broken : this .broken ≡ true
   pub number : f .number ≡ this .number
   pub place : f .place ≡ this .place
 
--- what was said is a refusal exactly where a row is broken, and then that of the first one
-pub record Refuses {A : Type 0} (refused : Refusal → A) (rows : List Row) (said : A) : Type 0 where
-  pub when : (f : Refusal) → FirstBroken rows f → said ≡ refused f
-  pub only : (f : Refusal) → said ≡ refused f → FirstBroken rows f
+-- what was told is a refusal exactly where a row is broken: the number and place of the first one, and no value; otherwise number and place are 0, and some value is given
+pub record Refuses (rows : List Row) (told : Told) : Type 0 where
+  pub when : (f : Refusal) → FirstBroken rows f → told ≡ toldRefusal f
+  pub only : (told .number ≡ 0 → ⊥) → FirstBroken rows (record { number = told .number; place = told .place })
+  pub zero : told .number ≡ 0 → (told .place ≡ 0) × (told .values ≡ [] → ⊥) × Each Unbroken rows
 
 -- and then every lent byte is as before: old before the call, new after it
-abbrev pub RefusesAndKeeps : {A : Type 0} → (Refusal → A) → List Row → List ℕ → List ℕ → A → Type 0
-RefusesAndKeeps refused rows old new said = Refuses refused rows said × ((f : Refusal) → said ≡ refused f → new ≡ old)
+abbrev pub RefusesAndKeeps : List Row → List ℕ → List ℕ → Told → Type 0
+RefusesAndKeeps rows old new told = Refuses rows told × ((told .number ≡ 0 → ⊥) → new ≡ old)
 
-abbrev pub numbers : List Row → List ℕ
-numbers rows = map (λ r. r .number) rows
+-- an order of checks by the numbers and places of its rows
+abbrev pub checksOf : List Row → List Refusal
+checksOf rows = map refusal rows
 
-abbrev pub places : List Row → List ℕ
-places rows = map (λ r. r .place) rows
+abbrev pub givenAt : ℕ → ℕ → Refusal
+givenAt number place = record { number = number; place = place }
 
--- so many zeros
-abbrev pub zeros : ℕ → List ℕ
-zeros n = replicate n 0
+-- numbers whose place is 0
+abbrev pub plain : List ℕ → List Refusal
+plain numbers = map (λ number. givenAt number 0) numbers
+
+-- 1 to 10; then 11 with the lowest such entry; then 12 and 13 with the lowest such slot
+abbrev pub headerOrder : List Refusal
+headerOrder = plain (numbersFrom 1 10)
+
+abbrev pub registryOrder : List ℕ → Header → List Refusal
+registryOrder s h = headerOrder ++ (givenAt 11 (lowestEntry BadType s h) ∷ [])
+
+abbrev pub dumpOrder : List ℕ → Header → List Refusal
+dumpOrder s h = registryOrder s h ++ (givenAt 12 (lowest (isAtFault OutOfTurn s h) (slotCount h)) ∷ givenAt 13 (lowest (isAtFault NoId s h) (slotCount h)) ∷ [])
 
 -- orders of checks
 pub record Orders : Type 0 where
   -- checking a dump, 1 to 13; finding a name, 1 to 11
-  pub checking : (s : List ℕ) → numbers (dumpRows s (headerOf s)) ≡ numbersFrom 1 13
-  pub finding : (s : List ℕ) → numbers (registryRows s (headerOf s)) ≡ numbersFrom 1 11
+  pub checking : (s : List ℕ) → checksOf (dumpRows s (headerOf s)) ≡ dumpOrder s (headerOf s)
+  pub finding : (s : List ℕ) → checksOf (registryRows s (headerOf s)) ≡ registryOrder s (headerOf s)
   -- one event by position, 1 to 13, then 25
-  pub event : (s : List ℕ) (position : ℕ) → numbers (eventRows s (headerOf s) position) ≡ numbersFrom 1 13 ++ (25 ∷ [])
+  pub event : (s : List ℕ) (position : ℕ) → checksOf (eventRows s (headerOf s) position) ≡ dumpOrder s (headerOf s) ++ plain (25 ∷ [])
   -- the whole listing, 1 to 16; one line, 1 to 15, then 25, 16
-  pub listing : (s : List ℕ) (r : Reading) (room : ℕ) → numbers (listingRows s (headerOf s) r room) ≡ numbersFrom 1 16
-  pub line : (s : List ℕ) (r : Reading) (position room : ℕ) → numbers (lineRows s (headerOf s) r position room) ≡ numbersFrom 1 15 ++ (25 ∷ 16 ∷ [])
-  -- recording, 1 to 10, 17, 18; registering, 1 to 10, 19, 23, 20, 21; removing, 1 to 10, 22; formatting, 2, 4, 5, 24
-  pub recording : (slot : Slot) (s : List ℕ) → numbers (recording slot s .rows) ≡ numbersFrom 1 10 ++ (17 ∷ 18 ∷ [])
-  pub registering : (object : Object) (name s : List ℕ) → numbers (registering object name s .rows) ≡ numbersFrom 1 10 ++ (19 ∷ 23 ∷ 20 ∷ 21 ∷ [])
-  pub removing : (pointer : ℕ) (s : List ℕ) → numbers (removing pointer s .rows) ≡ numbersFrom 1 10 ++ (22 ∷ [])
-  pub formatting : (f : Format) (s : List ℕ) → numbers (formatting f s .rows) ≡ 2 ∷ 4 ∷ 5 ∷ 24 ∷ []
-
--- places: 0, but for 11, 12, 13 and 20, which give the lowest such entry or slot
-pub record Places : Type 0 where
-  pub checking : (s : List ℕ)
-      → let h = headerOf s in
-      places (dumpRows s h) ≡ zeros 10 ++ (lowestEntry BadType s h ∷ lowest (isAtFault OutOfTurn s h) (slotCount h) ∷ lowest (isAtFault NoId s h) (slotCount h) ∷ [])
-  pub finding : (s : List ℕ) → places (registryRows s (headerOf s)) ≡ zeros 10 ++ (lowestEntry BadType s (headerOf s) ∷ [])
-  pub event : (s : List ℕ) (position : ℕ) → places (eventRows s (headerOf s) position) ≡ places (dumpRows s (headerOf s)) ++ zeros 1
-  pub listing : (s : List ℕ) (r : Reading) (room : ℕ) → places (listingRows s (headerOf s) r room) ≡ places (dumpRows s (headerOf s)) ++ zeros 3
-  pub line : (s : List ℕ) (r : Reading) (position room : ℕ) → places (lineRows s (headerOf s) r position room) ≡ places (dumpRows s (headerOf s)) ++ zeros 4
-  pub recording : (slot : Slot) (s : List ℕ) → places (recording slot s .rows) ≡ zeros 12
-  pub registering : (object : Object) (name s : List ℕ) → places (registering object name s .rows) ≡ zeros 12 ++ (lowestEntry (InUse (object .pointer)) s (headerOf s) ∷ 0 ∷ [])
-  pub removing : (pointer : ℕ) (s : List ℕ) → places (removing pointer s .rows) ≡ zeros 11
-  pub formatting : (f : Format) (s : List ℕ) → places (formatting f s .rows) ≡ zeros 4
+  pub listing : (s : List ℕ) (r : Reading) (room : ℕ) → checksOf (listingRows s (headerOf s) r room) ≡ dumpOrder s (headerOf s) ++ plain (14 ∷ 15 ∷ 16 ∷ [])
+  pub line : (s : List ℕ) (r : Reading) (position room : ℕ) → checksOf (lineRows s (headerOf s) r position room) ≡ dumpOrder s (headerOf s) ++ plain (14 ∷ 15 ∷ 25 ∷ 16 ∷ [])
+  -- recording, 1 to 10, 17, 18; registering, 1 to 10, 19, 23, 20 with that entry, lowest, 21; removing, 1 to 10, 22; formatting, 2, 4, 5, 24
+  pub recording : (slot : Slot) (s : List ℕ) → checksOf (recording slot s .rows) ≡ headerOrder ++ plain (17 ∷ 18 ∷ [])
+  pub registering : (object : Object) (name s : List ℕ)
+      → checksOf (registering object name s .rows) ≡ headerOrder ++ plain (19 ∷ 23 ∷ []) ++ (givenAt 20 (lowestEntry (InUse (object .pointer)) s (headerOf s)) ∷ plain (21 ∷ []))
+  pub removing : (pointer : ℕ) (s : List ℕ) → checksOf (removing pointer s .rows) ≡ headerOrder ++ plain (22 ∷ [])
+  pub formatting : (f : Format) (s : List ℕ) → checksOf (formatting f s .rows) ≡ plain (2 ∷ 4 ∷ 5 ∷ 24 ∷ [])

@@ -8,7 +8,7 @@ use Rattle.text.specs.Lines.{line}
 use Rattle.text.specs.Names.{name}
 use Rattle.text.specs.Numbers.{digits, number}
 use Rattle.text.specs.Output.{Put, printed}
-use Rattle.text.specs.Reading.{IsInteger, IsName, readName, readNumber}
+use Rattle.text.specs.ReadBack.{IsInteger, IsName, readName, readNumber}
 use Rattle.text.specs.declared.Line.{Line}
 
 pub record Texts : Type 0 where

@@ -22,13 +22,9 @@ use Rattle.trace.specs.declared.Wanted.the-variants.{Free, InUse}
 use Rattle.writing.specs.Bytes.{entryBytes}
 use Rattle.writing.specs.Keeping.{OneEach, SameEvents, SameName, Outside, entered}
 use Rattle.writing.specs.Table.{lowestEntry}
-use Rattle.writing.specs.Writing.{Change, cut, freshBytes, freshEnd, freshSlot, freshSlots, nextPointer, nextSlot}
+use Rattle.writing.specs.Writing.{cut, freshBytes, freshEnd, freshSlot, freshSlots, nextPointer, nextSlot}
 use Rattle.writing.specs.declared.Format.{Format}
 use Rattle.writing.specs.declared.Object.{Object}
-
--- no row that the call checks is broken
-abbrev pub Accepted : Change → Type 0
-Accepted c = firstBroken (c .rows) ≡ Passed
 
 -- what formatting leaves, t with header h
 pub record Formatted (f : Format) (s t : List ℕ) (h : Header) : Type 0 where

@@ -4,6 +4,7 @@ use rows::above;
 use rows::both;
 use rows::either;
 use rows::least;
+use trace::HEADER_SIZE;
 use trace::Header;
 use trace::Wanted;
 use words::Order;
@@ -93,9 +94,9 @@ fn passed_over(dump: &[u8], header: Header, wanted: Wanted, from: usize) -> usiz
     let entries = geometry.entries;
     let size = geometry.entry_size;
     let order = header.order;
-    let end = least(48 + entries * size, above(dump.len(), 7));
+    let end = least(HEADER_SIZE + entries * size, above(dump.len(), 7));
     let mut i = from;
-    let mut at = 48 + from * size;
+    let mut at = HEADER_SIZE + from * size;
     loop {
         if end <= at {
             break i;
@@ -122,7 +123,7 @@ pub fn lowest_entry(dump: &[u8], header: Header, wanted: Wanted) -> usize
         if i == entries {
             break entries;
         }
-        if is_wanted(dump, 48 + i * size, order, wanted) {
+        if is_wanted(dump, HEADER_SIZE + i * size, order, wanted) {
             break i;
         }
         i += 1;

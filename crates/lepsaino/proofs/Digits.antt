@@ -9,7 +9,7 @@ use borrow.Author.Tests.{le-leb, leb-true, lt-leb}
 use lib.Dec.{leb}
 use lib.ListN.{length, drop, getD, drop-of-length-le}
 use lib.Seq.{drop-cons}
-use Rattle.text.specs.Reading.{decimal, decimalAfter}
+use Rattle.text.specs.ReadBack.{decimal, decimalAfter}
 use Rattle.lepsaino.specs.Arguments.{AtMost, allDigits, argumentOf, isDigit}
 use Rattle.lepsaino.specs.declared.Argument.the-variants.{Number, Wrong}
 

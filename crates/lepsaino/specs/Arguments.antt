@@ -4,7 +4,7 @@ use mathlib.Core.Bool.{Bool, true, cond, _&&_}
 use mathlib.Core.List.{List, [], _∷_}
 use lib.Dec.{leb}
 use lib.ListN.{length}
-use Rattle.text.specs.Reading.{decimal}
+use Rattle.text.specs.ReadBack.{decimal}
 use Rattle.lepsaino.specs.declared.Argument.{Argument}
 use Rattle.lepsaino.specs.declared.Argument.the-variants.{Wrong, Number}
 

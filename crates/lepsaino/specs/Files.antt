@@ -5,6 +5,6 @@ use lib.ListN.{length}
 use Rattle.lepsaino.specs.declared.Took.{Took}
 use Rattle.lepsaino.specs.declared.Took.the-variants.{Bytes, Failed}
 
-abbrev pub Within : Took → List ℕ → Type 0
-Within (Bytes n) space = n ≤ length space
-Within Failed space = Unit {0}
+abbrev pub InSpace : Took → List ℕ → Type 0
+InSpace (Bytes n) space = n ≤ length space
+InSpace Failed space = Unit {0}

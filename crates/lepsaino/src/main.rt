@@ -12,7 +12,7 @@ use libc::STDOUT_FILENO;
 ghost use mathlib.Core.Path.{_≡_};
 ghost use lib.ListN.{length};
 ghost use Rattle.lepsaino.specs.Arguments.{AtMost};
-ghost use Rattle.lepsaino.specs.Files.{Within};
+ghost use Rattle.lepsaino.specs.Files.{InSpace};
 
 // Room for 2,046 events at 700 bytes each: any listing fits, and none is measured first.
 fn output_space() -> [u8; 1432200]
@@ -51,7 +51,7 @@ fn print_listing(dump: &[u8], reading: Reading) {
 
 // Reads until the space is full or the file ends. One byte more than a dump may have is room enough.
 fn read_all(file: i32, space: &mut [u8]) -> Took
-    ensures { λ r. ⌜ Within r (now (space .exit)) ⌝ }
+    ensures { λ r. ⌜ InSpace r (now (space .exit)) ⌝ }
 {
     let mut done = 0;
     while done < space.len() {

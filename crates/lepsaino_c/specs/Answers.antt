@@ -1,33 +1,25 @@
--- Answers as numbers: what a C caller is handed for each answer of the library. In a refusal every other number is 0.
+-- Answers as structs of numbers: what a C caller is handed for each answer of the library, by what it is told. In a refusal every other number is 0.
 use Prim.Native.Nat.{ℕ}
 use mathlib.Core.Bool.{cond}
 use mathlib.Core.List.{List}
 use mathlib.Core.Path.{_≡_}
 use lib.Dec.{eqb}
 use lib.ListN.{length}
-use Rattle.events.specs.Listing.{Gave, answer}
-use Rattle.events.specs.declared.Event.{Event}
+use Rattle.events.specs.Events.{shownTold, slotFrom}
+use Rattle.events.specs.Listing.{Gave, listedBy, listedTold}
 use Rattle.events.specs.declared.Listed.{Listed}
-use Rattle.events.specs.declared.Listed.the-variants as listed
 use Rattle.events.specs.declared.Shown.{Shown}
-use Rattle.events.specs.declared.Shown.the-variants as shown
 use Rattle.rows.specs.Rows.{Row, firstBroken}
-use Rattle.rows.specs.declared.Refusal.{Refusal}
-use Rattle.text.specs.declared.Context.{Context}
-use Rattle.text.specs.declared.Context.the-variants.{Init, Isr, Thread}
+use Rattle.rows.specs.Told.{Told, valueAt}
+use Rattle.trace.specs.Check.{checkedTold}
+use Rattle.trace.specs.Names.{foundTold}
 use Rattle.trace.specs.declared.Checked.{Checked}
-use Rattle.trace.specs.declared.Checked.the-variants as checked
 use Rattle.trace.specs.declared.Found.{Found}
-use Rattle.trace.specs.declared.Found.the-variants as found
-use Rattle.trace.specs.declared.Header.{Header}
-use Rattle.trace.specs.declared.Name.{Name}
-use Rattle.trace.specs.declared.Name.the-variants.{Named, Nameless}
-use Rattle.trace.specs.declared.Slot.{Slot}
 use Rattle.words.specs.declared.Order.{Order}
 use Rattle.words.specs.declared.Order.the-variants.{Big, Little}
+use Rattle.writing.specs.Writing.{outcomeTold}
 use Rattle.writing.specs.declared.Format.{Format}
 use Rattle.writing.specs.declared.Outcome.{Outcome}
-use Rattle.writing.specs.declared.Outcome.the-variants as outcome
 use Rattle.lepsaino_c.specs.declared.answers.Answer.{Answer}
 use Rattle.lepsaino_c.specs.declared.answers.CheckAnswer.{CheckAnswer}
 use Rattle.lepsaino_c.specs.declared.answers.EventAnswer.{EventAnswer}
@@ -35,110 +27,63 @@ use Rattle.lepsaino_c.specs.declared.answers.NameAnswer.{NameAnswer}
 use Rattle.lepsaino_c.specs.declared.writers.FormatNumbers.{FormatNumbers}
 
 -- a line, a listing, a writing call: the length, the number of slots or the index
-abbrev pub accepted : ℕ → Answer
-accepted n = record { refusal = 0; place = 0; value = n }
-
-abbrev pub refusedAnswer : Refusal → Answer
-refusedAnswer f = record { refusal = f .number; place = f .place; value = 0 }
+abbrev pub answerOf : Told → Answer
+answerOf t = record { refusal = t .number; place = t .place; value = valueAt t 0 }
 
 unfoldable pub listedAnswer : Listed → Answer
-listedAnswer (listed.Refused f) = refusedAnswer f
-listedAnswer (listed.Written n) = accepted n
+listedAnswer x = answerOf (listedTold x)
 
 unfoldable pub outcomeAnswer : Outcome → Answer
-outcomeAnswer (outcome.Refused f) = refusedAnswer f
-outcomeAnswer (outcome.Done n) = accepted n
+outcomeAnswer x = answerOf (outcomeTold x)
 
 -- a line or a listing: what the library's call leaves, and its answer as numbers
 pub record GaveNumbers (rows : List Row) (text old new : List ℕ) (numbers : Answer) : Type 0 where
-  pub gave : Gave rows text old new (answer (firstBroken rows) (length text))
-  pub answered : numbers ≡ listedAnswer (answer (firstBroken rows) (length text))
+  pub gave : Gave rows text old new (listedBy (firstBroken rows) (length text))
+  pub answered : numbers ≡ listedAnswer (listedBy (firstBroken rows) (length text))
 
--- checking: big-endian is 1, little-endian 0
-unfoldable pub orderNumber : Order → ℕ
-orderNumber Big = 1
-orderNumber Little = 0
-
-unfoldable pub soundAnswer : Header → ℕ → CheckAnswer
-soundAnswer h n = record {
-  refusal = 0;
-  place = 0;
-  big = orderNumber (h .order);
-  id = h .id;
-  mask = h .mask;
-  base = h .base;
-  «registry_start» = h .«registry_start»;
-  «name_size» = h .«name_size»;
-  «registry_end» = h .«registry_end»;
-  «buffer_start» = h .«buffer_start»;
-  «buffer_end» = h .«buffer_end»;
-  current = h .current;
-  events = n;
+-- checking: the byte order, the header's fields, the event count
+abbrev pub checkAnswerOf : Told → CheckAnswer
+checkAnswerOf t = record {
+  refusal = t .number;
+  place = t .place;
+  big = valueAt t 0;
+  id = valueAt t 1;
+  mask = valueAt t 2;
+  base = valueAt t 3;
+  «registry_start» = valueAt t 4;
+  «name_size» = valueAt t 5;
+  «registry_end» = valueAt t 6;
+  «buffer_start» = valueAt t 7;
+  «buffer_end» = valueAt t 8;
+  current = valueAt t 9;
+  events = valueAt t 10;
 }
 
 unfoldable pub checkAnswer : Checked → CheckAnswer
-checkAnswer (checked.Refused f) = record {
-  refusal = f .number;
-  place = f .place;
-  big = 0;
-  id = 0;
-  mask = 0;
-  base = 0;
-  «registry_start» = 0;
-  «name_size» = 0;
-  «registry_end» = 0;
-  «buffer_start» = 0;
-  «buffer_end» = 0;
-  current = 0;
-  events = 0;
-}
-checkAnswer (checked.Sound h n) = soundAnswer h n
+checkAnswer x = checkAnswerOf (checkedTold x)
 
 -- a name: where it lies in the dump
-unfoldable pub nameGiven : Name → NameAnswer
-nameGiven Nameless = record { refusal = 0; place = 0; named = 0; at = 0; length = 0 }
-nameGiven (Named at length) = record { refusal = 0; place = 0; named = 1; at = at; length = length }
+abbrev pub nameAnswerOf : Told → NameAnswer
+nameAnswerOf t = record { refusal = t .number; place = t .place; named = valueAt t 0; at = valueAt t 1; length = valueAt t 2 }
 
 unfoldable pub nameAnswer : Found → NameAnswer
-nameAnswer (found.Refused f) = record { refusal = f .number; place = f .place; named = 0; at = 0; length = 0 }
-nameAnswer (found.Searched name) = nameGiven name
+nameAnswer x = nameAnswerOf (foundTold x)
 
--- an event
-unfoldable pub contextNumber : Context → ℕ
-contextNumber Init = 1
-contextNumber Isr = 2
-contextNumber Thread = 3
-
-abbrev pub noSlot : Slot
-noSlot = record { pointer = 0; field = 0; id = 0; stamp = 0; first = 0; second = 0; third = 0; fourth = 0 }
-
-unfoldable pub eventGiven : Event → EventAnswer
-eventGiven e = record {
-  refusal = 0;
-  place = 0;
-  slot = e .slot;
-  ticks = e .ticks;
-  context = contextNumber (e .by);
-  named = nameGiven (e .name) .named;
-  «name_at» = nameGiven (e .name) .at;
-  «name_length» = nameGiven (e .name) .length;
-}
-
-unfoldable pub eventRefused : Refusal → EventAnswer
-eventRefused f = record {
-  refusal = f .number;
-  place = f .place;
-  slot = noSlot;
-  ticks = 0;
-  context = 0;
-  named = 0;
-  «name_at» = 0;
-  «name_length» = 0;
+-- an event: its slot's eight words, ticks, context and name
+abbrev pub eventAnswerOf : Told → EventAnswer
+eventAnswerOf t = record {
+  refusal = t .number;
+  place = t .place;
+  slot = slotFrom t;
+  ticks = valueAt t 8;
+  context = valueAt t 9;
+  named = valueAt t 10;
+  «name_at» = valueAt t 11;
+  «name_length» = valueAt t 12;
 }
 
 unfoldable pub eventAnswer : Shown → EventAnswer
-eventAnswer (shown.Refused f) = eventRefused f
-eventAnswer (shown.Given e) = eventGiven e
+eventAnswer x = eventAnswerOf (shownTold x)
 
 -- formatting: 0 is little-endian, any other number big
 unfoldable pub orderGiven : ℕ → Order

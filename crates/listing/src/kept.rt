@@ -9,7 +9,7 @@ use walk::slot_at;
 use walk::sought_by;
 ghost use mathlib.Core.Path.{_≡_};
 ghost use Prim.Native.Nat.{_<_};
-ghost use Rattle.trace.specs.Names.{nameOf, nameSize, nameStart};
+ghost use Rattle.trace.specs.Names.{nameOf, nameLength, nameStart};
 ghost use Rattle.trace.specs.Slots.{slotIn};
 ghost use Rattle.walk.specs.Walks.{eventHere, sought};
 ghost use Rattle.listing.specs.Keeps.{Kept, nameFrom};
@@ -82,7 +82,7 @@ pub(crate) fn start_of(name: Name) -> usize
 }
 
 pub(crate) fn length_of(name: Name) -> usize
-    ensures { λ r. ⌜ r ≡ nameSize name ⌝ }
+    ensures { λ r. ⌜ r ≡ nameLength name ⌝ }
 {
     match name {
         Name::Nameless => 0,

@@ -18,7 +18,7 @@ ghost use Rattle.trace.specs.Layout.{headerOf};
 ghost use Rattle.trace.specs.Slots.{eventCount};
 ghost use Rattle.trace.specs.Table.{dumpRows, row16, row25};
 ghost use Rattle.events.specs.Listing.{Gave, lineAt, lineMore, lineRows};
-ghost use Rattle.listing.specs.Keeps.{Accepted};
+ghost use Rattle.listing.specs.Keeps.{Listable};
 
 // Checks 1 to 15, then 25 and 16, and writes the line of the event at a position.
 pub fn line(dump: &[u8], reading: Reading, position: usize, out: &mut [u8]) -> Listed
@@ -58,7 +58,7 @@ fn accepted_line(
     position: usize,
     out: &mut [u8],
 ) -> Listed
-    requires { ⌜ Accepted (now dump) header reading events ⌝ }
+    requires { ⌜ Listable (now dump) header reading events ⌝ }
     ensures { λ r. ⌜ Gave (row25 position (eventCount (now (dump .entry)) header) ∷ row16 (length (lineAt (now (dump .entry)) header reading position)) (length (now (out .entry))) ∷ []) (lineAt (now (dump .entry)) header reading position) (now (out .entry)) (now (out .exit)) r ⌝ }
 {
     if events <= position {

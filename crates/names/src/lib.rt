@@ -5,12 +5,12 @@ ghost use mathlib.Core.Option.{some};
 ghost use Prim.Native.Nat.{_≤_, _<_, _^_};
 ghost use lib.Dec.{leb};
 ghost use lib.ListN.{length};
-ghost use Rattle.text.specs.Names.{escape, escaped, given, hexDigit, hexed, name, slashed};
+ghost use Rattle.text.specs.Names.{escape, escaped, ifNamed, hexDigit, hexed, name, slashed};
 ghost use Rattle.text.specs.Output.{Put, capped, printed};
 
 // The length of a name's text, or of null where there is none; at most the largest usize.
 pub fn name_length(named: bool, bytes: &[u8]) -> usize
-    ensures { λ r. ⌜ r ≡ capped (length (name (given named (now (bytes .entry))))) ⌝ }
+    ensures { λ r. ⌜ r ≡ capped (length (name (ifNamed named (now (bytes .entry))))) ⌝ }
 {
     if named {
         return output::sum(escaped_length(bytes), 2);
@@ -20,7 +20,7 @@ pub fn name_length(named: bool, bytes: &[u8]) -> usize
 
 // The text of a name, or of none, at the front of the output, and its length; nothing, and 0, where there is no room.
 pub fn put_name(out: &mut [u8], named: bool, bytes: &[u8]) -> usize
-    ensures { λ r. ⌜ Put (printed (name (given named (now (bytes .entry)))) (now (out .entry))) (now (out .entry)) (now (out .exit)) r ⌝ }
+    ensures { λ r. ⌜ Put (printed (name (ifNamed named (now (bytes .entry)))) (now (out .entry))) (now (out .entry)) (now (out .exit)) r ⌝ }
 {
     if named {
         return put_some(out, bytes);

@@ -1,13 +1,15 @@
 // Registering: an object is entered in the lowest free entry.
 use dump::allowed_type;
 use dump::lowest_entry;
-use finder::name_length;
+use finder::length_to_zero;
 use header::geometry_of;
 use header::header_of;
 use header::header_verdict;
 use rows::Refusal;
 use rows::Verdict;
+use trace::HEADER_SIZE;
 use trace::Header;
+use trace::NAME_OFFSET;
 use trace::Wanted;
 use words::Order;
 use words::put_byte;
@@ -27,7 +29,7 @@ ghost use Rattle.trace.specs.declared.Wanted.the-variants.{Free};
 ghost use Rattle.words.specs.Fields.{byte, fieldBytes};
 ghost use Rattle.writing.specs.Bytes.{entryBytes, entryFields, ifThread};
 ghost use Rattle.writing.specs.Table.{lowestEntry, row19, row20, row21, row23};
-ghost use Rattle.writing.specs.Writing.{altered, answer, left, registered, registering, said};
+ghost use Rattle.writing.specs.Writing.{altered, left, outcomeBy, registered, registering, said};
 
 fn row19(earlier: Verdict, object_type: u8) -> Verdict
     ensures { λ r. ⌜ r ≡ afterRow earlier (row19 «object_type») ⌝ }
@@ -41,7 +43,7 @@ fn row23(earlier: Verdict, name: &[u8]) -> Verdict
     rows::after(
         earlier,
         23,
-        name_length(name, 0, name.len()) < name.len(),
+        length_to_zero(name, 0, name.len()) < name.len(),
         0,
     )
 }
@@ -102,15 +104,15 @@ fn put_entry(buffer: &mut [u8], header: Header, index: usize, object: Object, na
     requires { ⌜ index < entryCount header ⌝ }
     ensures { λ _. ⌜ now (buffer .exit) ≡ sets (now (buffer .entry)) (entryAt header index) (entryBytes (header .order) (header .«name_size») object (now (name .entry))) ⌝ }
 {
-    let at = 48 + index * geometry_of(header).entry_size;
+    let at = HEADER_SIZE + index * geometry_of(header).entry_size;
     let order = header.order;
     put_fields(buffer, at, order, object);
-    put_padded(buffer, at + 16, name, header.name_size as usize);
+    put_padded(buffer, at + NAME_OFFSET, name, header.name_size as usize);
 }
 
 // Enters an object in the lowest free entry, or refuses by 21.
 fn enter(buffer: &mut [u8], header: Header, object: Object, name: &[u8]) -> Outcome
-    ensures { λ r. ⌜ (r ≡ answer (firstBroken (row21 (now (buffer .entry)) header ∷ [])) (lowestEntry Free (now (buffer .entry)) header)) × (now (buffer .exit) ≡ altered (firstBroken (row21 (now (buffer .entry)) header ∷ [])) (registered (now (buffer .entry)) header object (now (name .entry))) (now (buffer .entry))) ⌝ }
+    ensures { λ r. ⌜ (r ≡ outcomeBy (firstBroken (row21 (now (buffer .entry)) header ∷ [])) (lowestEntry Free (now (buffer .entry)) header)) × (now (buffer .exit) ≡ altered (firstBroken (row21 (now (buffer .entry)) header ∷ [])) (registered (now (buffer .entry)) header object (now (name .entry))) (now (buffer .entry))) ⌝ }
 {
     let index = lowest_entry(buffer, header, Wanted::Free);
     if index < geometry_of(header).entries {

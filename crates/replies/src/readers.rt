@@ -1,8 +1,10 @@
 // What the check, an event and the search for a name give, a line for each.
 use crate::print_end;
+use console::number_at;
 use console::print_front;
 use console::print_refusal;
 use console::print_space;
+use console::word_at;
 use events::Event;
 use events::Shown;
 use libc::STDOUT_FILENO;
@@ -14,6 +16,18 @@ use trace::Name;
 use trace::Slot;
 use words::Order;
 
+// A space and a number.
+fn print_word(word: u32) {
+    print_space(word as u64);
+}
+
+fn print_four(a: u32, b: u32, c: u32, d: u32) {
+    print_word(a);
+    print_word(b);
+    print_word(c);
+    print_word(d);
+}
+
 fn print_order(order: Order) {
     match order {
         Order::Big => io::write_all(STDOUT_FILENO, b"big"),
@@ -22,28 +36,26 @@ fn print_order(order: Order) {
     ;
 }
 
-fn print_header(header: Header) {
+// The header's fields, and the event count.
+fn print_sound(header: Header, events: usize) {
     let order = header.order;
     print_order(order);
-    print_space(header.id as u64);
-    print_space(header.mask as u64);
-    print_space(header.base as u64);
-    print_space(header.registry_start as u64);
+    print_four(header.id, header.mask, header.base, header.registry_start);
     print_space(header.name_size as u64);
-    print_space(header.registry_end as u64);
-    print_space(header.buffer_start as u64);
-    print_space(header.buffer_end as u64);
-    print_space(header.current as u64);
+    print_four(
+        header.registry_end,
+        header.buffer_start,
+        header.buffer_end,
+        header.current,
+    );
+    print_space(events as u64);
 }
 
-// A refusal; or the header's fields, and the event count.
-pub(crate) fn print_checked(answer: Checked) {
-    match answer {
+// The check: a refusal, or what it found.
+pub(crate) fn print_checked(dump: &[u8]) {
+    match dump::check(dump) {
         Checked::Refused(refusal) => print_refusal(refusal),
-        Checked::Sound { header, events } => {
-            print_header(header);
-            print_space(events as u64);
-        }
+        Checked::Sound { header, events } => print_sound(header, events),
     }
     print_end();
 }
@@ -74,15 +86,13 @@ fn print_context(by: Context) {
 
 fn print_slot(slot: Slot) {
     io::print_decimal(STDOUT_FILENO, slot.pointer as u64);
-    print_space(slot.field as u64);
-    print_space(slot.id as u64);
-    print_space(slot.stamp as u64);
-    print_space(slot.first as u64);
-    print_space(slot.second as u64);
-    print_space(slot.third as u64);
-    print_space(slot.fourth as u64);
+    print_word(slot.field);
+    print_word(slot.id);
+    print_word(slot.stamp);
+    print_four(slot.first, slot.second, slot.third, slot.fourth);
 }
 
+// The slot's words, the ticks, the context and the name.
 fn print_event(dump: &[u8], event: Event) {
     let slot = event.slot;
     let by = event.by;
@@ -93,24 +103,18 @@ fn print_event(dump: &[u8], event: Event) {
     print_name(dump, name);
 }
 
-// A refusal; or the slot's words, the ticks, the context and the name.
-pub(crate) fn print_shown(dump: &[u8], shown: Shown) {
-    match shown {
+// The event at a position (64 bits): a refusal, or the event.
+pub(crate) fn print_shown(dump: &[u8], arguments: &[u8]) {
+    match walk::event(dump, number_at(arguments, 0, 4) as usize) {
         Shown::Refused(refusal) => print_refusal(refusal),
         Shown::Given(event) => print_event(dump, event),
     }
     print_end();
 }
 
-// The place of a name in the dump.
-fn print_place(name: Name) {
-    if let Name::Named { at, length: _ } = name {
-        print_space(at as u64);
-    }
-}
-
-// What finding a name gives, and the length of the part that is handed back.
-pub(crate) fn print_found(dump: &[u8], found: Found) {
+// What finding the name for a pointer gives, the length of the part that is handed back, and its place in the dump.
+pub(crate) fn print_found(dump: &[u8], arguments: &[u8]) {
+    let found = finder::find_name(dump, word_at(arguments, 0));
     let size = finder::found_part(dump, found).len() as u64;
     match found {
         Found::Refused(refusal) => {
@@ -120,7 +124,9 @@ pub(crate) fn print_found(dump: &[u8], found: Found) {
         Found::Searched(name) => {
             print_name(dump, name);
             print_space(size);
-            print_place(name);
+            if let Name::Named { at, length: _ } = name {
+                print_space(at as u64);
+            }
         }
     }
     print_end();

@@ -1,58 +1,68 @@
 // A line or the listing, into room that is part of more space, so that a byte changed past the text shows.
-use crate::arguments::Text;
-use crate::buffers::fill;
+use crate::arguments::reading_in;
+use crate::arguments::room_in;
 use crate::print_end;
 use console::count_changed;
+use console::number_at;
 use console::print_front;
 use console::print_refusal;
 use console::print_space;
 use events::Listed;
 use libc::STDOUT_FILENO;
 
-// A refusal and how many bytes changed; or the text's length, how many bytes changed past it, and the text.
+// A refusal or the text's length; how many bytes changed past it; and the text.
 fn print_listed(space: &[u8], listed: Listed) {
-    match listed {
+    let length = match listed {
         Listed::Refused(refusal) => {
             print_refusal(refusal);
-            print_space(count_changed(space, 0) as u64);
-            print_end();
+            0
         }
-        Listed::Written(length) => {
-            io::print_decimal(STDOUT_FILENO, length as u64);
-            print_space(count_changed(space, length) as u64);
-            print_end();
-            print_front(space, length);
+        Listed::Written(n) => {
+            io::print_decimal(STDOUT_FILENO, n as u64);
+            n
         }
+    };
+    print_space(count_changed(space, length) as u64);
+    print_end();
+    print_front(space, length);
+}
+
+// The listing, or the line at the position (64 bits) that stands at 16.
+fn put_text(dump: &[u8], arguments: &[u8], whole: bool, out: &mut [u8]) -> Listed {
+    let reading = reading_in(arguments);
+    if whole {
+        listing::listing(dump, reading, out)
+    } else {
+        listing::line(dump, reading, number_at(arguments, 16, 20) as usize, out)
     }
 }
 
-fn put_text(dump: &[u8], text: Text, out: &mut [u8]) -> Listed {
-    let reading = text.reading;
-    if text.whole {
-        return listing::listing(dump, reading, out);
-    }
-    listing::line(dump, reading, text.position, out)
-}
-
-// The text into its room.
-fn put_within(dump: &[u8], text: Text, space: &mut [u8]) -> Listed {
-    let room = text.room as usize;
-    if space.len() < room {
-        return Listed::Written(0);
-    }
-    put_text(dump, text, &mut space[..room])
-}
-
-fn print_cleared(dump: &[u8], text: Text, space: &mut [u8]) {
-    fill(space, b'.');
-    let listed = put_within(dump, text, space);
-    print_listed(space, listed);
-}
-
-// Of the space, only the text's room and 64 bytes more are cleared and looked at.
-pub(crate) fn print_text(dump: &[u8], text: Text, space: &mut [u8]) {
-    let end = text.room as usize + 64;
+// Of the space, which has dots only, the text's room and 64 bytes more are looked at.
+fn print_within(dump: &[u8], arguments: &[u8], whole: bool, space: &mut [u8]) {
+    let room = room_in(arguments) as usize;
+    let end = room + 64;
     if end <= space.len() {
-        print_cleared(dump, text, &mut space[..end]);
+        let listed = put_text(dump, arguments, whole, &mut space[..room]);
+        print_listed(&space[..end], listed);
     }
+}
+
+// The longest listing is that of 2,046 events.
+fn long_space() -> [u8; 1600000] {
+    [b'.'; 1600000]
+}
+
+fn print_long(dump: &[u8], arguments: &[u8], whole: bool) {
+    let mut space = long_space();
+    print_within(dump, arguments, whole, &mut space);
+}
+
+// Few calls need much space, and filling it takes the most time of a run.
+pub(crate) fn print_text(dump: &[u8], arguments: &[u8], whole: bool) {
+    if room_in(arguments) > 4000 {
+        print_long(dump, arguments, whole);
+        return;
+    }
+    let mut space = [b'.'; 4096];
+    print_within(dump, arguments, whole, &mut space);
 }

@@ -1,44 +1,27 @@
-// What a writing call gives, and the digest of the buffer after it.
+// What a writing call does and gives, and the digest of the buffer after it.
 use crate::arguments::format_in;
+use crate::arguments::name_in;
 use crate::arguments::object_in;
-use crate::arguments::slot_in;
 use crate::buffers::print_digest;
 use console::print_refusal;
 use console::print_space;
 use console::word_at;
 use libc::STDOUT_FILENO;
+use words::Order;
 use writing::Outcome;
 
-fn format(buffer: &mut [u8], arguments: &[u8]) -> Outcome {
-    formatter::format(buffer, format_in(arguments))
-}
-
-fn record(buffer: &mut [u8], arguments: &[u8]) -> Outcome {
-    recorder::record(buffer, slot_in(arguments))
-}
-
-fn register(buffer: &mut [u8], arguments: &[u8]) -> Outcome {
-    if arguments.len() < 15 {
-        return Outcome::Done(0);
-    }
-    registrar::register(buffer, object_in(arguments), &arguments[15..])
-}
-
-fn remove(buffer: &mut [u8], arguments: &[u8]) -> Outcome {
-    registrar::remove(buffer, word_at(arguments, 0))
-}
-
-// Formatting (f), recording (w), registering (o) or removing (x).
-fn outcome_of(buffer: &mut [u8], kind: u8, arguments: &[u8]) -> Outcome {
+// Formatting (f), recording a slot's eight words (w), registering (o) or removing (x); no other call changes the buffer.
+pub(crate) fn changed(buffer: &mut [u8], kind: u8, arguments: &[u8]) -> Outcome {
     match kind {
-        b'f' => format(buffer, arguments),
-        b'w' => record(buffer, arguments),
-        b'o' => register(buffer, arguments),
-        _ => remove(buffer, arguments),
+        b'f' => formatter::format(buffer, format_in(arguments)),
+        b'w' => recorder::record(buffer, walk::slot_at(arguments, 0, Order::Little)),
+        b'o' => registrar::register(buffer, object_in(arguments), name_in(arguments)),
+        b'x' => registrar::remove(buffer, word_at(arguments, 0)),
+        _ => Outcome::Done(0),
     }
 }
 
-fn print_outcome(outcome: Outcome) {
+pub(crate) fn print_outcome(buffer: &[u8], outcome: Outcome) {
     match outcome {
         Outcome::Refused(refusal) => print_refusal(refusal),
         Outcome::Done(number) => {
@@ -46,10 +29,5 @@ fn print_outcome(outcome: Outcome) {
             print_space(number as u64);
         }
     }
-}
-
-pub(crate) fn print_call(buffer: &mut [u8], kind: u8, arguments: &[u8]) {
-    let outcome = outcome_of(buffer, kind, arguments);
-    print_outcome(outcome);
     print_digest(buffer);
 }

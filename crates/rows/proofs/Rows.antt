@@ -1,10 +1,8 @@
 -- Rows one after another give the first that is broken.
-use Prim.Native.Nat.{ℕ, zero, suc}
 use mathlib.Core.Bool.{Bool, true, false, cond}
 use mathlib.Core.List.{List, [], _∷_, _++_}
-use mathlib.Core.Path.{_≡_, refl, sym, ap, _∙_}
-use lib.ListN.{getD}
-use Rattle.rows.specs.Rows.{Row, row, refusal, firstBroken, afterRow, afterRows}
+use mathlib.Core.Path.{_≡_, refl, sym, ap, ap₂, _∙_}
+use Rattle.rows.specs.Rows.{Row, refusal, firstBroken, afterRow, afterRows}
 use Rattle.rows.specs.declared.Refusal.{Refusal}
 use Rattle.rows.specs.declared.Verdict.{Verdict}
 use Rattle.rows.specs.declared.Verdict.the-variants.{Passed, Refused}
@@ -30,6 +28,10 @@ in-order (r ∷ rs) more = chosen (r .broken) (refusal r) more _ _ (in-order rs 
 pub from-start : (rs : List Row) → afterRows Passed rs ≡ firstBroken rs
 unfolding firstBroken
 from-start rs = in-order [] rs
+
+-- rows that say the same say the same with further rows behind them
+pub then-same : (rs others : List Row) {more behind : List Row} → firstBroken rs ≡ firstBroken others → more ≡ behind → firstBroken (rs ++ more) ≡ firstBroken (others ++ behind)
+then-same rs others {more} {behind} say same = sym (in-order rs more) ∙ ap₂ afterRows say same ∙ in-order others behind
 
 -- further rows change no refusal, and decide where the rows before them have passed
 module _ (rs more : List Row) where
@@ -58,12 +60,23 @@ past : (b : Bool) (f : Refusal) (v : Verdict) → cond b (Refused f) v ≡ Passe
 past true f v e = (cc, cc)
 past false f v e = (refl, e)
 
+-- a row stands in a list, wherever that is
+pub data Among (r : Row) : List Row → Type 0 where
+  here : {rs : List Row} → Among r (r ∷ rs)
+  further : {other : Row} {rs : List Row} → Among r rs → Among r (other ∷ rs)
+
+pub ruleset among = (here, further)
+
 -- of rows that passed none is broken
-pub none-broken : (rs : List Row) → firstBroken rs ≡ Passed → (k : ℕ) → getD rs k (row 0 false) .broken ≡ false
+pub unbroken : {rs : List Row} → firstBroken rs ≡ Passed → (r : Row) → Among r rs → r .broken ≡ false
 unfolding firstBroken
-none-broken [] passed k = refl
-none-broken (r ∷ rs) passed zero = past (r .broken) (refusal r) (firstBroken rs) passed .0
-none-broken (r ∷ rs) passed (suc k) = none-broken rs (past (r .broken) (refusal r) (firstBroken rs) passed .1) k
+unbroken passed r (here {rs}) = past (r .broken) (refusal r) (firstBroken rs) passed .0
+unbroken passed r (further {other} {rs} among) = unbroken (past (other .broken) (refusal other) (firstBroken rs) passed .1) r among
+
+-- and rows of which none is broken pass: one row more
+pub kept-too : (r : Row) (rs : List Row) → r .broken ≡ false → firstBroken rs ≡ Passed → firstBroken (r ∷ rs) ≡ Passed
+unfolding firstBroken
+kept-too r rs e passed = rw e passed
 
 -- a single row passes or refuses
 module _ (r : Row) where

@@ -2,6 +2,7 @@
 use Prim.Native.Nat.{ℕ}
 use mathlib.Core.Bool.{Bool, cond}
 use mathlib.Core.List.{List, [], _∷_}
+use mathlib.Core.Path.{_≡_}
 use lib.Dec.{ltb}
 use Rattle.rows.specs.Lowest.{lowest}
 use Rattle.rows.specs.declared.Refusal.{Refusal}
@@ -32,6 +33,10 @@ refusal r = record { number = r .number; place = r .place }
 unfoldable pub firstBroken : List Row → Verdict
 firstBroken [] = Passed
 firstBroken (r ∷ rs) = cond (r .broken) (Refused (refusal r)) (firstBroken rs)
+
+-- no row is broken
+abbrev pub Accepted : List Row → Type 0
+Accepted rows = firstBroken rows ≡ Passed
 
 -- the same as the code goes: one row after another, where an earlier refusal stays
 unfoldable pub afterRow : Verdict → Row → Verdict

@@ -14,7 +14,7 @@ use Rattle.words.specs.Words.{AreBytes}
 use Rattle.text.specs.Ascii.{ascii, choose}
 use Rattle.text.specs.Names.{escape, escaped, hexDigit, name}
 use Rattle.text.specs.Numbers.{digit, digits, isBare, number, quoted}
-use Rattle.text.specs.Reading.{AreDigits, IsInteger, IsName, StartsAtOne, decimal, decimalAfter, firstByte, firstLength, hexValue, inside, isQuoted, readName, readNumber, unescaped, unescapedIn}
+use Rattle.text.specs.ReadBack.{AreDigits, IsInteger, IsName, StartsAtOne, decimal, decimalAfter, firstByte, firstLength, hexValue, inside, isQuoted, readName, readNumber, unescaped, unescapedIn}
 use Rattle.text.proofs.Digits.{by-tenths, digits-one, digits-more}
 use Rattle.text.proofs.Escapes.{by-kind, escape-long}
 

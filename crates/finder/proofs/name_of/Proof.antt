@@ -32,11 +32,11 @@ add-at c = omega (arith, room c)
 add-at-2 : tie.Need-add-at-2
 add-at-2 c = omega (arith, room c)
 
-cast-name-length : tie.Need-cast-name-length
-cast-name-length c = search needs
+cast-length-to-zero : tie.Need-cast-length-to-zero
+cast-length-to-zero c = search needs
 
-name-length-requires : tie.Need-name-length-requires
-name-length-requires c κs = search needs
+length-to-zero-requires : tie.Need-length-to-zero-requires
+length-to-zero-requires c κs = search needs
 
 returns : tie.Need-returns
 unfolding nameOf
@@ -45,7 +45,7 @@ returns c =
     let g = c .before .before .before .before .before .geometry-of in
     let within : ltb (threadEntry (a .dump .now) (a .header) (a .pointer)) (entryCount (a .header)) ≡ true =
     rw (c .before .before .before .before .before .before .lowest-entry .ensures, entries-are (a .header) (g .result) (g .ensures)) at (lt-ltb (c .before .before .before .before .before .before .lowest-entry .result) (g .result .entries) (c .before .before .before .if1 .taken)) in
-    rw (within, c .name-length .ensures, c .before .before .before .before .before .before .lowest-entry .ensures, g .ensures)
+    rw (within, c .length-to-zero .ensures, c .before .before .before .before .before .before .lowest-entry .ensures, g .ensures)
 
 returns-2 : tie.Need-returns-2
 unfolding nameOf
@@ -65,7 +65,7 @@ name-of-spec =
     mul-at
     add-at
     add-at-2
-    cast-name-length
-    name-length-requires
+    cast-length-to-zero
+    length-to-zero-requires
     returns
     returns-2)

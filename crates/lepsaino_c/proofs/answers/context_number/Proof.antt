@@ -1,5 +1,5 @@
 -- `lepsaino_c::answers::context_number` meets its contract: case by case.
-use Rattle.lepsaino_c.specs.Answers.{contextNumber}
+use Rattle.events.specs.Events.{contextNumber}
 use borrow.Author.Needs.{needs}
 use Rattle.lepsaino_c.proofs.answers.context_number.Statement.{statement}
 use Rattle.lepsaino_c.proofs.answers.context_number.Tie as tie

@@ -1,6 +1,8 @@
 -- `lepsaino_c::answers::name_given` meets its contract: case by case.
 use mathlib.Core.Path.{ap, sym}
-use Rattle.lepsaino_c.specs.Answers.{nameGiven}
+use Rattle.trace.specs.Names.{foundTold, nameNumbers}
+use Rattle.trace.specs.declared.Found.the-variants.{Searched}
+use Rattle.lepsaino_c.specs.Answers.{nameAnswer}
 use borrow.Author.Needs.{needs}
 use Rattle.lepsaino_c.proofs.answers.name_given.Statement.{statement}
 use Rattle.lepsaino_c.proofs.answers.name_given.Tie as tie
@@ -12,12 +14,12 @@ enum-known-name : tie.Need-enum-known-name
 enum-known-name c = search needs
 
 returns : tie.Need-returns
-unfolding nameGiven
+unfolding nameAnswer foundTold nameNumbers
 returns c = rw (c .enum-told .given .1)
 
 returns-2 : tie.Need-returns-2
-unfolding nameGiven
-returns-2 c = sym (ap nameGiven (c .before .name .given .1))
+unfolding nameAnswer foundTold nameNumbers
+returns-2 c = sym (ap (λ name. nameAnswer (Searched name)) (c .before .name .given .1))
 
 pub name-given-spec : {M : Type 1} → statement M
 name-given-spec = tie.close (tie.spec enum-told enum-known-name returns returns-2)

@@ -1,5 +1,6 @@
 -- `lepsaino_c::answers::of_checked` meets its contract: case by case.
 use mathlib.Core.Path.{_∙_, ap, sym}
+use Rattle.trace.specs.Check.{checkedTold}
 use Rattle.lepsaino_c.specs.Answers.{checkAnswer}
 use borrow.Author.Needs.{needs}
 use Rattle.lepsaino_c.proofs.answers.of_checked.Statement.{statement}
@@ -15,11 +16,11 @@ sound-requires : tie.Need-sound-requires
 sound-requires c κs = search needs
 
 returns : tie.Need-returns
-unfolding checkAnswer
+unfolding checkAnswer checkedTold
 returns c = sym (ap checkAnswer (c .before .checked .given .1))
 
 returns-2 : tie.Need-returns-2
-unfolding checkAnswer
+unfolding checkAnswer checkedTold
 returns-2 c = c .sound .ensures ∙ sym (ap checkAnswer (c .before .before .checked2 .given .1))
 
 pub of-checked-spec : {M : Type 1} → statement M

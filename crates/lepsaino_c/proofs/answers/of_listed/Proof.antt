@@ -1,5 +1,6 @@
 -- `lepsaino_c::answers::of_listed` meets its contract: case by case.
 use mathlib.Core.Path.{_∙_, ap, sym}
+use Rattle.events.specs.Listing.{listedTold}
 use Rattle.lepsaino_c.specs.Answers.{listedAnswer}
 use borrow.Author.Needs.{needs}
 use Rattle.lepsaino_c.proofs.answers.of_listed.Statement.{statement}
@@ -15,11 +16,11 @@ enum-known-listed-2 : tie.Need-enum-known-listed-2
 enum-known-listed-2 c = search needs
 
 returns : tie.Need-returns
-unfolding listedAnswer
+unfolding listedAnswer listedTold
 returns c = c .refused .ensures ∙ sym (ap listedAnswer (c .before .before .listed .given .1))
 
 returns-2 : tie.Need-returns-2
-unfolding listedAnswer
+unfolding listedAnswer listedTold
 returns-2 c = sym (ap listedAnswer (c .before .listed2 .given .1))
 
 pub of-listed-spec : {M : Type 1} → statement M

@@ -1,5 +1,6 @@
 -- `lepsaino_c::answers::of_outcome` meets its contract: case by case.
 use mathlib.Core.Path.{_∙_, ap, sym}
+use Rattle.writing.specs.Writing.{outcomeTold}
 use Rattle.lepsaino_c.specs.Answers.{outcomeAnswer}
 use borrow.Author.Needs.{needs}
 use Rattle.lepsaino_c.proofs.answers.of_outcome.Statement.{statement}
@@ -15,11 +16,11 @@ enum-known-outcome-2 : tie.Need-enum-known-outcome-2
 enum-known-outcome-2 c = search needs
 
 returns : tie.Need-returns
-unfolding outcomeAnswer
+unfolding outcomeAnswer outcomeTold
 returns c = c .refused .ensures ∙ sym (ap outcomeAnswer (c .before .before .outcome .given .1))
 
 returns-2 : tie.Need-returns-2
-unfolding outcomeAnswer
+unfolding outcomeAnswer outcomeTold
 returns-2 c = sym (ap outcomeAnswer (c .before .outcome2 .given .1))
 
 pub of-outcome-spec : {M : Type 1} → statement M

@@ -1,5 +1,5 @@
 -- `lepsaino_c::answers::order_number` meets its contract: case by case.
-use Rattle.lepsaino_c.specs.Answers.{orderNumber}
+use Rattle.trace.specs.Check.{orderNumber}
 use borrow.Author.Needs.{needs}
 use Rattle.lepsaino_c.proofs.answers.order_number.Statement.{statement}
 use Rattle.lepsaino_c.proofs.answers.order_number.Tie as tie

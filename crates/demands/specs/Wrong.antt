@@ -1,0 +1,84 @@
+-- Statements next to true ones that are false: two of document 01's slips, as what they take for granted, and limits and conditions of the demands moved or left out.
+use Prim.Native.Nat.{ℕ, suc, _+_, _-_, _^_, _≤_, _<_, min}
+use mathlib.Core.Bool.{true, false}
+use mathlib.Core.List.{List, _++_}
+use mathlib.Core.Logic.{_⊎_}
+use mathlib.Core.Path.{_≡_}
+use lib.ListN.{length}
+use Rattle.events.specs.declared.Reading.{Reading}
+use Rattle.rows.specs.Rows.{Accepted}
+use Rattle.rows.specs.declared.Refusal.{Refusal}
+use Rattle.text.specs.Numbers.{digits, isBare, number}
+use Rattle.trace.specs.Check.{checkOf}
+use Rattle.trace.specs.Layout.{headerOf}
+use Rattle.trace.specs.Slots.{eventCount}
+use Rattle.trace.specs.Table.{dumpRows, row4}
+use Rattle.trace.specs.Times.{microseconds, stampOf}
+use Rattle.trace.specs.declared.Checked.the-variants.{Refused, Sound}
+use Rattle.trace.specs.declared.Header.{Header}
+use Rattle.trace.specs.declared.Slot.{Slot}
+use Rattle.writing.specs.Arguments.{IsSlot}
+use Rattle.writing.specs.Writing.{formatting, left, recording, said}
+use Rattle.writing.specs.declared.Format.{Format}
+use Rattle.writing.specs.declared.Outcome.the-variants.{Done}
+use Rattle.demands.specs.Each.{Each}
+use Rattle.demands.specs.History.{Call, NeverBack, NoneFormats, Typed, acceptedWrites, after, lastOf, sinceOldest}
+use Rattle.demands.specs.Keys.{keyAt}
+use Rattle.demands.specs.NotRead.{SameAnswers}
+use Rattle.demands.specs.Shown.{ReadingAccepted, shownTicks}
+
+-- "sorting by stamp": events stand in the order of their stamps
+abbrev pub StampsRise : Type 0
+StampsRise = (s : List ℕ) (h : Header) (p : ℕ) → Accepted (dumpRows s h) → suc p < eventCount s h → stampOf s h p ≤ stampOf s h (suc p)
+
+-- "guarding the key against the float and forgetting microseconds"
+abbrev pub MicrosecondsBare : Type 0
+MicrosecondsBare = (ticks rate : ℕ) → number (microseconds ticks rate) ≡ digits (microseconds ticks rate)
+
+-- a mask of no ones
+abbrev pub NoOnes : Type 0
+NoOnes = (w : ℕ) → w ≤ 32 → row4 (2 ^ w - 1) .broken ≡ false
+
+-- two to the fifty-third in quotes
+abbrev pub LowerLimit : Type 0
+LowerLimit = (n : ℕ) → isBare n ≡ true → n < 2 ^ 53
+
+-- serial ranges that share one serial
+abbrev pub SerialsTouch : Type 0
+SerialsTouch =
+    (one two : Reading) (m n p q : ℕ) → ReadingAccepted one m → ReadingAccepted two n → p < m → q < n
+    → (one .serial + m ≤ two .serial + 1) ⊎ (two .serial + n ≤ one .serial + 1) → keyAt one p ≡ keyAt two q → ⊥
+
+-- every refusal of the check with place 0
+abbrev pub NoPlaces : Type 0
+NoPlaces = (s : List ℕ) (f : Refusal) → checkOf s ≡ Refused f → f .place ≡ 0
+
+-- an event more with every write, also where the slots are used up
+abbrev pub CountGrows : Type 0
+CountGrows =
+    (slot : Slot) (s : List ℕ) (n : ℕ) → IsSlot slot → Accepted (recording slot s .rows) → checkOf s ≡ Sound (headerOf s) n
+    → let t = left (recording slot s) s in checkOf t ≡ Sound (headerOf t) (suc n)
+
+-- bytes appended change no answer, also where a dump was too short
+abbrev pub AlwaysAppended : Type 0
+AlwaysAppended = (s more : List ℕ) → length (s ++ more) ≤ 65536 → SameAnswers s (s ++ more)
+
+-- the shown ticks are the true time, also where a true gap reaches the range
+abbrev pub AlwaysExact : Type 0
+AlwaysExact =
+    (f : Format) (s : List ℕ) (calls : List Call) (n p : ℕ) → f .base < 2 ^ 32 → said (formatting f s) ≡ Done n → Each Typed calls
+    → let fresh = left (formatting f s) s in
+    let writes = acceptedWrites recording calls fresh in
+    NoneFormats recording calls fresh → NeverBack writes → p < min (length writes) n
+    → shownTicks (after recording calls fresh) p ≡ sinceOldest (lastOf n writes) p
+
+pub record Wrong : Type 0 where
+  pub stamps-rise : StampsRise → ⊥
+  pub microseconds-bare : MicrosecondsBare → ⊥
+  pub no-ones : NoOnes → ⊥
+  pub lower-limit : LowerLimit → ⊥
+  pub serials-touch : SerialsTouch → ⊥
+  pub no-places : NoPlaces → ⊥
+  pub count-grows : CountGrows → ⊥
+  pub always-appended : AlwaysAppended → ⊥
+  pub always-exact : AlwaysExact → ⊥
