@@ -6,7 +6,7 @@ ghost use Rattle.lepsaino.specs.Arguments.{argumentOf, isDigit};
 fn is_digit(b: u8) -> bool
     ensures { λ r. ⌜ r ≡ isDigit b ⌝ }
 {
-    rows::both(48 <= b, b <= 57)
+    rows::both(b'0' <= b, b <= b'9')
 }
 
 // The number that digits stand for, if there are some, and it is at most so much.
@@ -23,7 +23,7 @@ pub fn number_in(text: &[u8], most: u64) -> Argument
         if !is_digit(b) {
             return Argument::Wrong;
         }
-        let digit = (b - 48) as u64;
+        let digit = (b - b'0') as u64;
         if digit > most {
             return Argument::Wrong;
         }
