@@ -1,8 +1,9 @@
 -- `finder::length_to_zero` meets its contract. The loop's invariant: no byte before the i-th is zero.
-use Prim.Native.Nat.{ℕ, _-_, _≤_, _<_}
+use Prim.Native.Nat.{ℕ, _+_, _-_, _≤_, _<_}
 use mathlib.Core.Bool.{false}
-use mathlib.Core.Path.{_≡_, sym, _∙_}
+use mathlib.Core.Path.{_≡_}
 use native.Mathlib.Omega.{arith}
+use lib.ListN.{getD}
 use borrow.Author.Count.{below-none, below-more}
 use borrow.Author.Needs.{needs}
 use borrow.Author.Tests.{eq-eqb, ne-eqb}
@@ -31,7 +32,9 @@ loop-less c = omega arith
 
 loop-again : tie.Need-loop-again Inv-loop μ-loop
 loop-again c =
-    (omega arith, below-more _ _ (c .before .before .before .loop .inv .1) (ne-eqb _ 0 (λ e. c .if2 .left (c .before .byte .ensures ∙ e))))
+    let a = c .before .before .before .before .before .args in
+    let here = getD (a .dump .now) (a .at + c .before .before .before .loop .i) 0 in
+    (omega arith, below-more _ _ (c .before .before .before .loop .inv .1) (ne-eqb here 0 (λ zero. omega (arith, c .if2 .left, c .before .byte .ensures))))
 
 returns : tie.Need-returns Inv-loop μ-loop
 returns c =
@@ -41,7 +44,9 @@ returns c =
 returns-2 : tie.Need-returns-2 Inv-loop μ-loop
 returns-2 c =
     let a = c .before .before .before .before .before .args in
-    lowest-at (isZeroAt (a .dump .now) (a .at)) (a .size) (c .before .before .before .loop .i) (omega arith) (c .before .before .before .loop .inv .1) (eq-eqb _ 0 (sym (c .before .byte .ensures) ∙ c .if2 .taken))
+    let here = getD (a .dump .now) (a .at + c .before .before .before .loop .i) 0 in
+    lowest-at (isZeroAt (a .dump .now) (a .at)) (a .size) (c .before .before .before .loop .i) (omega arith) (c .before .before .before .loop .inv .1)
+    (eq-eqb here 0 (omega (arith, c .before .byte .ensures, c .if2 .taken)))
 
 pub length-to-zero-spec : {M : Type 1} → statement M
 length-to-zero-spec =

@@ -1,6 +1,7 @@
 -- `names::put_escape` meets its contract, test by test.
 use mathlib.Core.List.{[], _∷_}
 use mathlib.Core.Path.{_≡_}
+use native.Mathlib.Omega.{arith}
 use Rattle.text.proofs.Escapes.{escape-high, escape-low, escape-quote, escape-self, escape-slash}
 use Rattle.text.proofs.Output.{stores}
 use Rattle.text.specs.Names.{escape}
@@ -9,22 +10,22 @@ use Rattle.names.proofs.put_escape.Statement.{statement}
 use Rattle.names.proofs.put_escape.Tie as tie
 
 put-hexed-requires : tie.Need-put-hexed-requires
-put-hexed-requires c κs = rw (escape-low (c .before .before .before .args .b) (c .before .if1 .taken)) at (c .before .before .before .pre)
+put-hexed-requires c κs = rw (escape-low (c .before .before .before .args .b) (omega (arith, c .before .if1 .taken))) at (c .before .before .before .pre)
 
 same-length : tie.Need-same-length
 same-length c = search needs
 
 returns : tie.Need-returns
-returns c = rw (escape-low (c .before .before .before .before .before .before .args .b) (c .before .before .before .before .if1 .taken)) (c .before .before .put-hexed .ensures)
+returns c = rw (escape-low (c .before .before .before .before .before .before .args .b) (omega (arith, c .before .before .before .before .if1 .taken))) (c .before .before .put-hexed .ensures)
 
 put-hexed-requires-2 : tie.Need-put-hexed-requires-2
-put-hexed-requires-2 c κs = rw (escape-high (c .before .before .before .before .args .b) (c .before .if2 .taken)) at (c .before .before .before .before .pre)
+put-hexed-requires-2 c κs = rw (escape-high (c .before .before .before .before .args .b) (omega (arith, c .before .if2 .taken))) at (c .before .before .before .before .pre)
 
 same-length-2 : tie.Need-same-length-2
 same-length-2 c = search needs
 
 returns-2 : tie.Need-returns-2
-returns-2 c = rw (escape-high (c .before .before .before .before .before .before .before .args .b) (c .before .before .before .before .if2 .taken)) (c .before .before .put-hexed2 .ensures)
+returns-2 c = rw (escape-high (c .before .before .before .before .before .before .before .args .b) (omega (arith, c .before .before .before .before .if2 .taken))) (c .before .before .put-hexed2 .ensures)
 
 put-slashed-requires : tie.Need-put-slashed-requires
 put-slashed-requires c κs = rw (escape-quote (c .before .before .before .before .before .args .b) (c .before .if3 .taken)) at (c .before .before .before .before .before .pre)
@@ -45,7 +46,7 @@ returns-4 : tie.Need-returns-4
 returns-4 c = rw (escape-slash (c .before .before .before .before .before .before .before .before .before .args .b) (c .before .before .before .before .if4 .taken)) (c .before .before .put-slashed2 .ensures)
 
 plain : (c : tie.Else4) → escape (c .before .before .before .before .before .args .b) ≡ c .before .before .before .before .before .args .b ∷ []
-plain c = escape-self (c .before .before .before .before .before .args .b) (c .before .before .before .if1 .left) (c .before .before .if2 .left) (c .before .if3 .left) (c .if4 .left)
+plain c = escape-self (c .before .before .before .before .before .args .b) (omega (arith, c .before .before .before .if1 .left)) (omega (arith, c .before .before .if2 .left)) (c .before .if3 .left) (c .if4 .left)
 
 slice-write-out : tie.Need-slice-write-out
 slice-write-out c = let a = c .before .before .before .before .before in rw (plain c) at (a .pre)
