@@ -175,9 +175,16 @@ def contexts():
          name=[None, "pump"])
 
 
+def beside(pointer):
+    """The next pointer that has the same place in the lister's index: bits 21 to 31 of a product."""
+    def place(pointer):
+        return pointer * 2654435769 >> 21 & 2047
+    return next(other for other in range(pointer + 4, 2 ** 32, 4) if place(other) == place(pointer))
+
+
 def neighbours():
-    """The lister keeps names that it found, each at a place that its pointer gives: its remainder by 1021."""
-    far = VALVE + 4 * 1021
+    """The lister finds names by an index, in which pointers may share a place."""
+    far = beside(VALVE)
     entries = [entry(PUMP, b"pump"), entry(VALVE, b"valve"), entry(INIT, b"init"), entry(0, b"zero"), entry(ISR, b""),
                entry(far, b"far")]
     rows = {
@@ -196,8 +203,8 @@ def neighbours():
         "isr of 0 first": ([slot(ISR, 0), slot(ISR, 0), slot(PUMP), slot(ISR, 0)], ["zero", "zero", "pump", "zero"]),
         "isr of isr": ([slot(ISR, ISR), slot(ISR, PUMP), slot(ISR, ISR), slot(PUMP, ISR)], ["", "pump", "", "pump"]),
         "two names at one place": ([slot(VALVE), slot(far)] * 3, ["valve", "far"] * 3),
-        "a name and none at one place": ([slot(PUMP), slot(PUMP + 4 * 1021)] * 3, ["pump", None] * 3),
-        "three at one place": ([slot(far), slot(far + 1021), slot(ISR, VALVE), slot(far)] * 2,
+        "a name and none at one place": ([slot(PUMP), slot(beside(PUMP))] * 3, ["pump", None] * 3),
+        "three at one place": ([slot(far), slot(beside(far)), slot(ISR, VALVE), slot(far)] * 2,
                                ["far", None, "valve", "far"] * 2),
         "empty name and none": ([slot(ISR, ISR), slot(ALARM), slot(ISR, ISR), slot(ISR, ALARM)], ["", None, "", None]),
     }

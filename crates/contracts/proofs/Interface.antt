@@ -8,7 +8,6 @@ use lib.ListN.{getD, length}
 use Rattle.demands.proofs.Names.{names}
 use Rattle.demands.proofs.Refusals.{first-demand}
 use Rattle.demands.specs.Demands.{Writes}
-use Rattle.demands.specs.Each.{Each}
 use Rattle.demands.specs.Names.{LiesWithin, nameShown}
 use Rattle.demands.specs.Refusals.{RefusesAndKeeps, Unbroken}
 use Rattle.events.specs.Events.{eventNumbers, eventOf, shownTold, slotNumbers}
@@ -24,6 +23,7 @@ use Rattle.trace.specs.declared.Found.{Found}
 use Rattle.trace.specs.declared.Found.the-variants as found
 use Rattle.trace.specs.declared.Name.{Name}
 use Rattle.trace.specs.declared.Name.the-variants.{Named, Nameless}
+use Rattle.words.specs.Each.{Each}
 use Rattle.words.specs.declared.Order.{Order}
 use Rattle.words.specs.declared.Order.the-variants.{Big, Little}
 use Rattle.writing.specs.Writing.{Change, formatting, left, outcomeTold, recording, registering, removing, said}

@@ -76,6 +76,7 @@ library = record {
     «registry_verdict» = equation (λ κs a v w. refl);
     «is_full» = equation (λ κs a v w. refl);
     «allowed_type» = equation (λ κs a v w. refl);
+    «is_thread» = equation (λ κs a v w. refl);
     «lowest_entry» = equation (λ κs a v w. refl);
   };
   doubles = record {
@@ -104,6 +105,7 @@ library = record {
     «found_part» = record { asks-nothing = λ κs a. tt; one-answer = λ κs a p q. (one-part (p .allowed) (q .allowed), refl) };
     «name_part» = record { asks-nothing = λ κs a. tt; one-answer = λ κs a p q. (one-part (p .allowed) (q .allowed), refl) };
     «name_of» = equation (λ κs a v w. refl);
+    «name_if_entry» = equation (λ κs a v w. refl);
     «length_to_zero» = equation (λ κs a v w. refl);
   };
   walk = record {

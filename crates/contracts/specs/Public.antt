@@ -58,6 +58,7 @@ pub record Dump : Type 0 where
   pub «registry_verdict» : Settled dump.«registry_verdict».ended dump.«registry_verdict».Reads.Asked dump.«registry_verdict».Reads.Learnt
   pub «is_full» : Settled dump.«is_full».ended dump.«is_full».Reads.Asked dump.«is_full».Reads.Learnt
   pub «allowed_type» : Settled dump.«allowed_type».ended dump.«allowed_type».Reads.Asked dump.«allowed_type».Reads.Learnt
+  pub «is_thread» : Settled dump.«is_thread».ended dump.«is_thread».Reads.Asked dump.«is_thread».Reads.Learnt
   pub «lowest_entry» : Settled dump.«lowest_entry».ended dump.«lowest_entry».Reads.Asked dump.«lowest_entry».Reads.Learnt
 
 pub record Doubles : Type 0 where
@@ -86,6 +87,7 @@ pub record Finder : Type 0 where
   pub «found_part» : SettledAs finder.«found_part».ended finder.«found_part».Reads.Asked finder.«found_part».Reads.Learnt (λ κs. unnamed)
   pub «name_part» : SettledAs finder.«name_part».ended finder.«name_part».Reads.Asked finder.«name_part».Reads.Learnt (λ κs. unnamed)
   pub «name_of» : Settled finder.«name_of».ended finder.«name_of».Reads.Asked finder.«name_of».Reads.Learnt
+  pub «name_if_entry» : Settled finder.«name_if_entry».ended finder.«name_if_entry».Reads.Asked finder.«name_if_entry».Reads.Learnt
   pub «length_to_zero» : Settled finder.«length_to_zero».ended finder.«length_to_zero».Reads.Asked finder.«length_to_zero».Reads.Learnt
 
 pub record Walk : Type 0 where

@@ -6,7 +6,6 @@ use denote.Ref.{now}
 use lib.ListN.{drop, length}
 use Rattle.demands.specs.Demands.{Shows}
 use Rattle.demands.specs.History.{Call, Read, Typed, Write, check, event, find, format, given, ifAccepted, lastOf, line, list, read, register, remove, write}
-use Rattle.demands.specs.Each.{Each}
 use Rattle.demands.specs.Shown.{ReadingAccepted, linesOf}
 use Rattle.dump.proofs as dump
 use Rattle.events.specs.declared.Listed.the-variants.{Written}
@@ -18,6 +17,7 @@ use Rattle.recorder.proofs as recorder
 use Rattle.registrar.proofs as registrar
 use Rattle.rows.specs.declared.Refusal.{Refusal}
 use Rattle.walk.proofs as walk
+use Rattle.words.specs.Each.{Each}
 use Rattle.writing.specs.declared.Format.{Format}
 use Rattle.writing.specs.declared.Object.{Object}
 use Rattle.writing.specs.declared.Outcome.the-variants.{Done, Refused}

@@ -17,11 +17,11 @@ use Rattle.trace.specs.Check.{checkOf}
 use Rattle.trace.specs.Layout.{headerOf, currentSlot, slotAt, slotCount}
 use Rattle.trace.specs.Slots.{slotIn}
 use Rattle.trace.specs.declared.Checked.the-variants.{Sound}
+use Rattle.words.specs.Each.{Each}
 use Rattle.writing.proofs.Moved.{moved-size}
 use Rattle.writing.specs.Keeping.{SameEvents}
 use Rattle.writing.specs.Writing.{altered, outcomeBy, cut, formatting, nextSlot, recording, registering, removing}
 use Rattle.demands.specs.History.{Call, DoesNotFormat, NoneFormats, Typed, Write, acceptedWrites, after, format, given, ifAccepted, leftBy, read, register, remove, write, writesBy}
-use Rattle.demands.specs.Each.{Each}
 use Rattle.demands.specs.Writings.{Recorded}
 use Rattle.demands.proofs.Answers.{refused-is}
 use Rattle.demands.proofs.Writings.{recording-leaves, registering-leaves, removing-leaves}

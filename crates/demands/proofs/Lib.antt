@@ -4,6 +4,8 @@ pub mod Demands
 pub mod Fakes
 pub mod Gives
 pub mod History
+pub mod Json
+pub mod JsonLines
 pub mod JsonNumbers
 pub mod Layouts
 pub mod Masks
@@ -13,6 +15,7 @@ pub mod Offsets
 pub mod OneLine
 pub mod OrderAndTime
 pub mod Patterns
+pub mod Plain
 pub mod Refusals
 pub mod SameLines
 pub mod SecondDemand

@@ -22,7 +22,7 @@ use Rattle.text.specs.declared.Context.the-variants.{Init, Isr, Thread}
 use Rattle.trace.proofs.Passed.{entry-within, registry-passed}
 use Rattle.trace.proofs.Threads.{thread-hit}
 use Rattle.trace.specs.Layout.{entryAt, entryCount, headerOf}
-use Rattle.trace.specs.Names.{entryName, findName, isNamed, isZeroAt, nameAt, nameFound, lengthToZero, nameOf, threadEntry}
+use Rattle.trace.specs.Names.{entryName, findName, isNamed, isZeroAt, nameAt, nameFound, lengthToZero, nameIfEntry, nameOf, threadEntry}
 use Rattle.trace.specs.Registry.{isWanted, isWantedAt}
 use Rattle.trace.specs.Slots.{eventCount}
 use Rattle.trace.specs.Table.{dumpRows, eventRows, registryRows, row25}
@@ -70,7 +70,7 @@ module _ (s : List ℕ) (h : Header) where
       by (no full) = inl (omega (arith, lowest-le zero-at (h .«name_size»)))
 
   named : (pointer at size : ℕ) → nameOf s h pointer ≡ Named at size → (i : ℕ) × Lowest s h pointer i × Extends s h i at size
-  unfolding nameOf
+  unfolding nameIfEntry nameOf
   named pointer at size = by (ltb (threadEntry s h pointer) (entryCount h)) refl
     where
       by : (hit : Bool) → ltb (threadEntry s h pointer) (entryCount h) ≡ hit → cond hit (entryName s h (threadEntry s h pointer)) Nameless ≡ Named at size
@@ -82,7 +82,7 @@ module _ (s : List ℕ) (h : Header) where
       by false none e = absurd (true≢false (ap isNamed (sym e)))
 
   nameless : (pointer : ℕ) → nameOf s h pointer ≡ Nameless → (i : ℕ) → i < entryCount h → IsThread s h pointer i → ⊥
-  unfolding nameOf
+  unfolding nameIfEntry nameOf
   nameless pointer = by (ltb (threadEntry s h pointer) (entryCount h)) refl
     where
       by : (hit : Bool) → ltb (threadEntry s h pointer) (entryCount h) ≡ hit → cond hit (entryName s h (threadEntry s h pointer)) Nameless ≡ Nameless

@@ -26,10 +26,10 @@ use Rattle.trace.specs.Table.{dumpRows, eventRows, registryRows}
 use Rattle.trace.specs.declared.Header.{Header}
 use Rattle.trace.specs.declared.Name.{Name}
 use Rattle.trace.specs.declared.Name.the-variants.{Named, Nameless}
+use Rattle.words.specs.Each.{Each}
 use Rattle.writing.proofs.Opened.{open-writing-rows}
 use Rattle.writing.specs.Writing.{Change, formatting, left, outcomeBy, outcomeTold, recording, registering, removing, said}
 use Rattle.demands.specs.Demands.{FirstDemand, Writes}
-use Rattle.demands.specs.Each.{Each}
 use Rattle.demands.specs.Refusals.{FirstBroken, Refuses, RefusesAndKeeps, Unbroken}
 
 -- the first broken row, found and given back

@@ -17,6 +17,7 @@ use Rattle.demands.specs.Shown.{ReadingAccepted}
 use Rattle.demands.proofs.Answers.{written-is}
 use Rattle.demands.proofs.BareNumbers.{bare-numbers}
 use Rattle.demands.proofs.Gives.{gives}
+use Rattle.demands.proofs.JsonLines.{json-lines}
 use Rattle.demands.proofs.JsonNumbers.{line-numbers, listing-numbers}
 use Rattle.demands.proofs.Layouts.{layouts}
 use Rattle.demands.proofs.Masks.{masks}
@@ -83,6 +84,7 @@ second-demand = record {
   line = λ s r position old new n. wrote _ _ old new n;
   one-line = one-line;
   empty-ring = empty-ring;
+  json = json-lines;
   texts = texts;
   numbers = λ s r old new n gave. rw (wrote-front _ _ old new n gave) (listing-numbers s _ r);
   line-numbers = λ s r position old new n gave. rw (wrote-front _ _ old new n gave) (line-numbers s _ r position);

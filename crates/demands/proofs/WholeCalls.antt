@@ -11,6 +11,7 @@ use Rattle.rows.specs.declared.Verdict.the-variants.{Passed}
 use Rattle.text.specs.Ascii.{ascii}
 use Rattle.trace.specs.Layout.{slotSize, withCurrent}
 use Rattle.trace.specs.Table.{row2, row4, row5}
+use Rattle.words.specs.Each.{Each}
 use Rattle.words.specs.Masks.{widthTo}
 use Rattle.words.specs.declared.Order.{Order}
 use Rattle.words.specs.declared.Order.the-variants.{Big, Little}
@@ -21,7 +22,6 @@ use Rattle.writing.specs.Bytes.{entryBytes, freeEntry, headerBytes, slotBytes}
 use Rattle.writing.specs.Table.{row24}
 use Rattle.writing.specs.Writing.{Change, formatting, freshBytes, freshHeader, left, recording, registering, said}
 use Rattle.writing.specs.declared.Outcome.the-variants.{Done}
-use Rattle.demands.specs.Each.{Each}
 use Rattle.demands.specs.History.{NeverBack, NoneFormats, Typed, acceptedWrites, after, given}
 use Rattle.demands.specs.WholeCase.{firstWrite, fourWrites, fourthWrite, middle, newest, oldest, pump, secondWrite, thirdWrite, wholeCalls, wholeDump, wholeFormat, wholeFresh, wholeHeader}
 use Rattle.demands.proofs.Typed.{given-words}

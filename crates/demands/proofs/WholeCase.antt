@@ -2,11 +2,11 @@
 use mathlib.Core.Path.{refl}
 use Rattle.events.specs.Events.{contextOf, eventIn, nameFor}
 use Rattle.events.specs.Listing.{fields, lineOf, linesTo}
-use Rattle.text.specs.Lines.{context, field, line}
+use Rattle.text.specs.Lines.{context, line, objectText, partText, parts, valueText}
 use Rattle.text.specs.Names.{escape, escaped, hexDigit, isMarked, isPlain, name}
 use Rattle.text.specs.Numbers.{digits, digitsIn, isBare, number, quoted}
 use Rattle.trace.specs.Keys.{key}
-use Rattle.trace.specs.Names.{nameBytes, nameOf}
+use Rattle.trace.specs.Names.{nameBytes, nameIfEntry, nameOf}
 use Rattle.trace.specs.Ring.{fromCurrent, keep, numbersFrom, oldestFirst}
 use Rattle.trace.specs.Slots.{slotIn}
 use Rattle.trace.specs.Times.{gap, microseconds, ticksOf}
@@ -18,6 +18,6 @@ use Rattle.demands.proofs.WholeCalls.{calls-make, calls-typed, none-for
 use Rattle.demands.specs.WholeCase.{WholeCase, middle, middleLine, newest, newestLine, oldest, oldestLine, pump, reading, threeLines, wholeBytes, wholeDump, wholeHeader}
 
 pub whole-case : (o : Order) → WholeCase o
-unfolding open-writing numbersRead pump middle middleLine newest newestLine oldest oldestLine reading threeLines wholeBytes wholeDump wholeHeader contextOf eventIn nameFor fields lineOf linesTo context field line name escape escaped hexDigit isMarked isPlain digits digitsIn isBare number quoted key nameBytes nameOf fromCurrent keep numbersFrom oldestFirst slotIn gap microseconds ticksOf
+unfolding open-writing numbersRead pump middle middleLine newest newestLine oldest oldestLine reading threeLines wholeBytes wholeDump wholeHeader contextOf eventIn nameFor fields lineOf linesTo context line objectText partText parts valueText name escape escaped hexDigit isMarked isPlain digits digitsIn isBare number quoted key nameBytes nameIfEntry nameOf fromCurrent keep numbersFrom oldestFirst slotIn gap microseconds ticksOf
 whole-case Big = record { fresh = three-slots Big; typed = calls-typed; none-formats = none-formats; never-back = times-rise; writes = writes-accepted Big; made = calls-make Big; bytes = refl; check = refl; listing = refl; numbers = refl; room = refl; no-room = refl }
 whole-case Little = record { fresh = three-slots Little; typed = calls-typed; none-formats = none-formats; never-back = times-rise; writes = writes-accepted Little; made = calls-make Little; bytes = refl; check = refl; listing = refl; numbers = refl; room = refl; no-room = refl }

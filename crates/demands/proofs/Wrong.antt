@@ -17,12 +17,12 @@ use Rattle.trace.specs.Table.{row4}
 use Rattle.trace.specs.Times.{microseconds, stampOf}
 use Rattle.trace.specs.declared.Checked.{Checked}
 use Rattle.trace.specs.declared.Checked.the-variants.{Refused, Sound}
+use Rattle.words.specs.Each.{Each}
 use Rattle.words.specs.declared.Order.the-variants.{Little}
 use Rattle.writing.proofs.Opened.{open-writing}
 use Rattle.writing.specs.Writing.{formatting, left, recording, said}
 use Rattle.writing.specs.declared.Format.{Format}
 use Rattle.writing.specs.declared.Outcome.the-variants.{Done}
-use Rattle.demands.specs.Each.{Each}
 use Rattle.demands.specs.History.{Call, NeverBack, Typed, Write, acceptedWrites, given, sinceOldest, wholeRanges, write}
 use Rattle.demands.specs.Masks.{range}
 use Rattle.demands.specs.Shown.{ReadingAccepted}

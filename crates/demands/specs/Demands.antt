@@ -19,6 +19,7 @@ use Rattle.trace.specs.Table.{dumpRows, eventRows, registryRows}
 use Rattle.trace.specs.declared.Checked.the-variants as checked
 use Rattle.trace.specs.declared.Header.{Header}
 use Rattle.trace.specs.declared.Slot.{Slot}
+use Rattle.words.specs.Each.{Each}
 use Rattle.words.specs.Words.{AreBytes}
 use Rattle.writing.specs.Arguments.{IsSlot}
 use Rattle.writing.specs.Writing.{Change, formatting, freshEnd, freshHeader, left, outcomeTold, recording, registering, removing, said}
@@ -26,9 +27,9 @@ use Rattle.writing.specs.declared.Format.{Format}
 use Rattle.writing.specs.declared.Object.{Object}
 use Rattle.writing.specs.declared.Outcome.the-variants as outcome
 use Rattle.demands.specs.BareNumbers.{BareNumbers}
-use Rattle.demands.specs.Each.{Each}
 use Rattle.demands.specs.Gives.{Gives}
 use Rattle.demands.specs.History.{Call, NeverBack, NoneFormats, Typed, Write, acceptedWrites, after, lastOf, sinceOldest, trueGap, wholeRanges}
+use Rattle.demands.specs.JsonLines.{JsonLines}
 use Rattle.demands.specs.JsonNumbers.{jsonNumbers, listedNumbers, numbersOf}
 use Rattle.demands.specs.Keys.{Keys}
 use Rattle.demands.specs.Layouts.{Layouts}
@@ -111,6 +112,8 @@ pub record SecondDemand : Type 0 where
   pub one-line : (s : List ℕ) (h : Header) (r : Reading) (position : ℕ)
       → (body : List ℕ) × (lineAt s h r position ≡ body ++ (0x0A ∷ [])) × Each (λ c. c ≡ 0x0A → ⊥) body
   pub empty-ring : (s : List ℕ) (h : Header) (r : Reading) → eventCount s h ≡ 0 → listingText s h r ≡ []
+  -- "JSON is RFC 8259.": each line is an object by its grammar, and a text has those numbers that `jsonNumbers` finds
+  pub json : JsonLines
   -- what is printed reads back
   pub texts : Texts
   -- "and no whole number above two to the fifty-third leaves as a JSON number.": in what was written, the JSON numbers are the digits of the lines' bare

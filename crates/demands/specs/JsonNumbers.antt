@@ -2,10 +2,12 @@
 use Prim.Native.Nat.{ℕ, zero, suc}
 use mathlib.Core.Bool.{Bool, cond, _&&_, _||_}
 use mathlib.Core.List.{List, [], _∷_, _++_}
+use mathlib.Core.Option.{none}
 use lib.Dec.{eqb, leb}
 use Rattle.events.specs.Events.{eventAt}
 use Rattle.events.specs.Listing.{fields}
 use Rattle.events.specs.declared.Reading.{Reading}
+use Rattle.text.specs.Lines.{numbersIn, parts}
 use Rattle.text.specs.declared.Line.{Line}
 use Rattle.trace.specs.Slots.{eventCount}
 use Rattle.trace.specs.declared.Header.{Header}
@@ -20,7 +22,11 @@ pub data Stand : Type 0 where
 abbrev pub isDigit : ℕ → Bool
 isDigit c = leb 48 c && leb c 57
 
--- the bytes that a number of JSON is made of: digits, + - . E e (so the e of true and false would be one, which no line has)
+-- a number of JSON begins with a digit or a minus sign
+abbrev pub isNumberStart : ℕ → Bool
+isNumberStart c = isDigit c || eqb c 0x2D
+
+-- and is made of digits, + - . E e
 abbrev pub isNumberByte : ℕ → Bool
 isNumberByte c = isDigit c || (eqb c 0x2B || (eqb c 0x2D || (eqb c 0x2E || (eqb c 0x45 || eqb c 0x65))))
 
@@ -30,14 +36,14 @@ isQuote c = eqb c 0x22
 abbrev pub isSlash : ℕ → Bool
 isSlash c = eqb c 0x5C
 
--- the numbers from there on, each as its bytes: outside strings, such a byte begins a number or goes on with it, and any other ends it;
+-- the numbers from there on, each as its bytes: outside strings, a byte that may begins a number, bytes that may go on with it, and any other ends it;
 -- a quote begins a string or ends it, unless it stands behind a backslash
 unfoldable pub numbersRead : Stand → List ℕ → List (List ℕ)
 numbersRead outside [] = []
 numbersRead (number bytes) [] = bytes ∷ []
 numbersRead string [] = []
 numbersRead slashed [] = []
-numbersRead outside (c ∷ text) = cond (isNumberByte c) (numbersRead (number (c ∷ [])) text) (cond (isQuote c) (numbersRead string text) (numbersRead outside text))
+numbersRead outside (c ∷ text) = cond (isNumberStart c) (numbersRead (number (c ∷ [])) text) (cond (isQuote c) (numbersRead string text) (numbersRead outside text))
 numbersRead (number bytes) (c ∷ text) =
     cond (isNumberByte c) (numbersRead (number (bytes ++ (c ∷ []))) text) (bytes ∷ cond (isQuote c) (numbersRead string text) (numbersRead outside text))
 numbersRead string (c ∷ text) = cond (isQuote c) (numbersRead outside text) (cond (isSlash c) (numbersRead slashed text) (numbersRead string text))
@@ -46,10 +52,9 @@ numbersRead slashed (c ∷ text) = numbersRead string text
 abbrev pub jsonNumbers : List ℕ → List (List ℕ)
 jsonNumbers text = numbersRead outside text
 
--- every number of a line, and of the first n lines of a listing, in their order
+-- every number of a line, whose name has none, and of the first n lines of a listing, in their order
 abbrev pub numbersOf : Line → List ℕ
-numbersOf l =
-    l .key ∷ l .ticks ∷ l .us ∷ l .id ∷ l .ptr ∷ l .field ∷ l .info .first ∷ l .info .second ∷ l .info .third ∷ l .info .fourth ∷ []
+numbersOf l = numbersIn (parts l none)
 
 unfoldable pub numbersTo : ℕ → List ℕ → Header → Reading → List ℕ
 numbersTo zero s h r = []

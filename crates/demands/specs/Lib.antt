@@ -1,9 +1,10 @@
 pub mod BareNumbers
 pub mod Demands
-pub mod Each
 pub mod Fakes
 pub mod Gives
 pub mod History
+pub mod Json
+pub mod JsonLines
 pub mod JsonNumbers
 pub mod Keys
 pub mod Layouts

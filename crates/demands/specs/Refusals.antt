@@ -17,11 +17,11 @@ use Rattle.trace.specs.declared.Slot.{Slot}
 use Rattle.trace.specs.declared.Wanted.the-variants.{BadType, InUse}
 use Rattle.events.specs.Listing.{lineRows, listingRows}
 use Rattle.events.specs.declared.Reading.{Reading}
+use Rattle.words.specs.Each.{Each}
 use Rattle.writing.specs.Table.{lowestEntry}
 use Rattle.writing.specs.Writing.{formatting, recording, registering, removing}
 use Rattle.writing.specs.declared.Format.{Format}
 use Rattle.writing.specs.declared.Object.{Object}
-use Rattle.demands.specs.Each.{Each}
 
 abbrev pub Unbroken : Row → Type 0
 Unbroken r = r .broken ≡ false

@@ -17,11 +17,11 @@ use Rattle.trace.specs.Times.{microseconds, stampOf}
 use Rattle.trace.specs.declared.Checked.the-variants.{Refused, Sound}
 use Rattle.trace.specs.declared.Header.{Header}
 use Rattle.trace.specs.declared.Slot.{Slot}
+use Rattle.words.specs.Each.{Each}
 use Rattle.writing.specs.Arguments.{IsSlot}
 use Rattle.writing.specs.Writing.{formatting, left, recording, said}
 use Rattle.writing.specs.declared.Format.{Format}
 use Rattle.writing.specs.declared.Outcome.the-variants.{Done}
-use Rattle.demands.specs.Each.{Each}
 use Rattle.demands.specs.History.{Call, NeverBack, NoneFormats, Typed, acceptedWrites, after, lastOf, sinceOldest}
 use Rattle.demands.specs.Keys.{keyAt}
 use Rattle.demands.specs.NotRead.{SameAnswers}

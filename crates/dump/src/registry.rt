@@ -43,7 +43,8 @@ fn is_bad_type(dump: &[u8], at: usize) -> bool
     both(used, !allowed_type(words::byte(dump, at, 1)))
 }
 
-fn is_thread(dump: &[u8], at: usize) -> bool
+// Whether the entry at a place is a thread's, in use.
+pub fn is_thread(dump: &[u8], at: usize) -> bool
     ensures { λ r. ⌜ r ≡ (isInUse (now (dump .entry)) at && eqb (typeAt (now (dump .entry)) at) 1) ⌝ }
 {
     let used = in_use(dump, at);

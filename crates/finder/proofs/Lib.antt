@@ -1,1 +1,2 @@
 mod Clips
+mod Ends

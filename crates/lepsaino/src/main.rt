@@ -14,11 +14,11 @@ ghost use lib.ListN.{length};
 ghost use Rattle.lepsaino.specs.Arguments.{AtMost};
 ghost use Rattle.lepsaino.specs.Files.{InSpace};
 
-// Room for 2,046 events at 700 bytes each: any listing fits, and none is measured first.
-fn output_space() -> [u8; 1432200]
-    ensures { λ r. ⌜ 1432200 ≡ length r ⌝ }
+// Room for 2,046 events at 774 bytes each, six for each of 64 bytes of a name and 65 more: any listing fits, and none is measured first.
+fn output_space() -> [u8; 1583604]
+    ensures { λ r. ⌜ 1583604 ≡ length r ⌝ }
 {
-    [0; 1432200]
+    [0; 1583604]
 }
 
 // A decimal number of its range, or something else.

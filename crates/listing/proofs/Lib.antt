@@ -1,5 +1,6 @@
 mod Answers
 mod Fitting
-mod Keeps
+mod Follows
 mod Lengths
+mod Links
 mod Naming

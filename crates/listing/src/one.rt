@@ -18,7 +18,7 @@ ghost use Rattle.trace.specs.Layout.{headerOf};
 ghost use Rattle.trace.specs.Slots.{eventCount};
 ghost use Rattle.trace.specs.Table.{dumpRows, row16, row25};
 ghost use Rattle.events.specs.Listing.{Gave, lineAt, lineMore, lineRows};
-ghost use Rattle.listing.specs.Keeps.{Listable};
+ghost use Rattle.listing.specs.Accepted.{Listable};
 
 // Checks 1 to 15, then 25 and 16, and writes the line of the event at a position.
 pub fn line(dump: &[u8], reading: Reading, position: usize, out: &mut [u8]) -> Listed

@@ -32,9 +32,9 @@ pub fn sound_dump(generator: &mut Generator) -> Case {
     draft.finish()
 }
 
-/// Distances between pointers at which a table by remainder or by low bits has one place for all.
+/// Distances between pointers at which a table by remainder, by low bits or by a product with the golden ratio has one place for all.
 const DISTANCES: [u32; 11] = [
-    1, 4, 251, 256, 509, 1_021, 2_042, 3_063, 1_024, 2_039, 65_536,
+    1, 4, 251, 256, 509, 1_021, 2_042, 3_063, 1_024, 46_368, 65_536,
 ];
 
 /// Many threads that take turns, some with a name, the same ones again and again.

@@ -6,7 +6,7 @@ use Rattle.lepsaino.proofs.output_space.Statement.{statement}
 use Rattle.lepsaino.proofs.output_space.Tie as tie
 
 returns : tie.Need-returns
-returns c = sym (length-replicate {0} {A = ℕ} 1432200 0)
+returns c = sym (length-replicate {0} {A = ℕ} 1583604 0)
 
 pub output-space-spec : {M : Type 1} → statement M
 output-space-spec = tie.close (tie.spec returns)
