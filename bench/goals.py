@@ -1,4 +1,5 @@
 """What we aim at: a competitor's time divided by ours is at least so much."""
+from titles import SHAPED_ENTRIES, SHAPES
 
 TEXT_JOBS = ["listing-full", "listing-names", "numbers"]
 TEXT_GOALS = {
@@ -18,6 +19,13 @@ GOALS = [
     for job in TEXT_JOBS
     for competitor, goal in TEXT_GOALS.items()
     if job != "numbers" or competitor not in LISTING_ONLY
+]
+# However the pointers lie, names make a listing take at most three times as long; crowded ones are only shown.
+GOALS += [
+    (f"shape-{shape}-{entries}", "lepsaino-nameless", 1 / 3)
+    for shape in SHAPES
+    if shape != "crowded"
+    for entries in SHAPED_ENTRIES
 ]
 # The check takes at most twice the time of reading the bytes once, in either way of reading them.
 GOALS += [("check", "sum", 0.5), ("check", "copy", 0.5)]

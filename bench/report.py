@@ -5,7 +5,7 @@ import statistics
 import sys
 
 from goals import GOALS
-from titles import COMPETITORS, JOBS
+from titles import COMPETITORS, JOBS, SHAPES
 
 OURS = "lepsaino"
 
@@ -24,15 +24,10 @@ def merged(times):
     return min(bests), statistics.median(medians)
 
 
-def table(heads, rows):
-    """The first two columns hold words, the others numbers."""
-    ruler = ["---" if index < 2 else "---:" for index in range(len(heads))]
+def table(heads, rows, words=2):
+    """So many columns hold words, the others numbers."""
+    ruler = ["---" if index < words else "---:" for index in range(len(heads))]
     return "\n".join(f"| {' | '.join(map(str, row))} |" for row in [heads, ruler, *rows])
-
-
-def number_table(heads, rows):
-    lines = [heads, ["---:"] * len(heads), *rows]
-    return "\n".join(f"| {' | '.join(map(str, row))} |" for row in lines)
 
 
 def time_text(nanoseconds):
@@ -79,7 +74,7 @@ def event_growth(growth):
             count = int(job.rpartition("-")[2])
             each = row[OURS][0]
             rows.append([f"{count:,}", time_text(each * count), f"{each:.1f}", f"{row['itoa'][0]:.1f}"])
-    return number_table(["events", "the library, the whole listing", "the library, ns for each event", "Rust with itoa"], rows)
+    return table(["events", "the library, the whole listing", "the library, ns for each event", "Rust with itoa"], rows, words=0)
 
 
 def entry_growth(growth):
@@ -91,7 +86,18 @@ def entry_growth(growth):
             times = one[OURS], one["itoa"], every[OURS], every["itoa"], every["itoa-map"]
             rows.append([f"{int(count):,}", *(f"{best:.1f}" for best, _ in times)])
     heads = ["entries", "one thread: the library", "Rust with itoa", "all threads: the library", "Rust with itoa", "the same with a map"]
-    return number_table(heads, rows)
+    return table(heads, rows, words=0)
+
+
+def shapes(growth):
+    rows = []
+    for job, row in growth.items():
+        if job.startswith("shape-"):
+            _, shape, entries = job.split("-")
+            ours, nameless, by_map = (row[name][0] for name in [OURS, "lepsaino-nameless", "itoa-map"])
+            rows.append([SHAPES[shape], f"{int(entries):,}", f"{ours:.1f}", f"{ours / nameless:.2f}", f"{by_map:.1f}"])
+    heads = ["pointers", "entries", "the library, ns for each event", "times the listing without names", "Rust with itoa, names in a map"]
+    return table(heads, rows, words=1)
 
 
 def machine(path):
@@ -112,10 +118,11 @@ def main():
     times, growth = read(results / "times"), read(results / "growth")
     parts = {
         "machine": machine(results / "machine"),
-        "goals": goals(times),
+        "goals": goals(times | growth),
         "instructions": instructions(results / "instructions"),
         "events": event_growth(growth),
         "entries": entry_growth(growth),
+        "shapes": shapes(growth),
         "times": all_times(times),
     }
     text = document.read_text()

@@ -2,6 +2,8 @@
 
 JOBS = {
     "listing-full": "listing, 2,046 events, no entries",
+    "listing-big": "listing, 2,046 events, no entries, big-endian",
+    "listing-exact": "listing, 2,046 events, no entries, no room to spare",
     "listing-names": "listing, 1,446 events, 400 names",
     "check": "checking the full dump",
     "check-big": "checking the full dump, big-endian",
@@ -14,8 +16,26 @@ JOBS = {
     "numbers": "printing one number",
 }
 
+SHAPES = {
+    "irregular": "at irregular distances",
+    "drawn": "drawn by chance",
+    "256": "256 bytes apart",
+    "4096": "4,096 bytes apart",
+    "65536": "65,536 bytes apart",
+    "crowded": "at one place of the index",
+}
+SHAPED_ENTRIES = [400, 1500]
+
+JOBS |= {
+    f"shape-{shape}-{entries}": f"listing, 500 events, {entries:,} names, pointers {title}"
+    for shape, title in SHAPES.items()
+    for entries in SHAPED_ENTRIES
+}
+
 COMPETITORS = {
     "lepsaino": "the library",
+    "lepsaino-nameless": "the library without names",
+    "lepsaino-plenty": "the library with plenty of room",
     "itoa": "Rust with itoa",
     "itoa-map": "Rust with itoa, names in a map",
     "serde": "Rust with serde_json",

@@ -20,11 +20,14 @@ pub type Recorder = fn(&mut [u8], u32) -> usize;
 /// Reads the dump, or copies it into the other bytes.
 pub type Reader = fn(&[u8], &mut [u8]) -> u64;
 
+/// The library, with room for any text.
+pub const LIBRARY: Lister = |dump, reading, out| {
+    lend(out);
+    lepsaino::listing(dump, reading, out).unwrap()
+};
+
 pub const LISTERS: [(&str, Lister); 5] = [
-    ("lepsaino", |dump, reading, out| {
-        lend(out);
-        lepsaino::listing(dump, reading, out).unwrap()
-    }),
+    ("lepsaino", LIBRARY),
     ("itoa", |dump, reading, out| {
         with_itoa::listing(dump, reading, out).unwrap();
         out.len()
@@ -42,6 +45,15 @@ pub const LISTERS: [(&str, Lister); 5] = [
         let reading = peer::Reading::new(reading.rate, reading.unit, reading.serial);
         peer::listing(dump, &reading, out).unwrap()
     }),
+];
+
+/// The library alone, by the room that it has.
+pub const ROOMS: [(&str, Lister); 2] = [
+    ("lepsaino", |dump, reading, out| {
+        lend_exactly(dump, reading, out);
+        lepsaino::listing(dump, reading, out).unwrap()
+    }),
+    ("lepsaino-plenty", LIBRARY),
 ];
 
 pub const PRINTERS: [(&str, Printer); 3] = [
@@ -123,6 +135,14 @@ pub fn refused_by_peer(refusal: peer::Refusal) -> Refusal {
 fn lend(out: &mut Vec<u8>) {
     if out.len() < ROOM {
         out.resize(ROOM, 0);
+    }
+}
+
+/// Room for this text and no more, so that the library measures it before it writes.
+fn lend_exactly(dump: &[u8], reading: Reading, out: &mut Vec<u8>) {
+    if out.is_empty() {
+        let length = LIBRARY(dump, reading, out);
+        out.truncate(length);
     }
 }
 

@@ -2,6 +2,7 @@
 
 use crate::stream::{Stream, INIT, ISR};
 use lepsaino::{Format, Object, Reading, Slot};
+use peer::generate::chance::Chance;
 
 /// The byte orders, as formatting has them.
 pub const LITTLE: u32 = 0;
@@ -9,6 +10,7 @@ pub const BIG: u32 = 1;
 
 const LARGEST: usize = 65_536;
 const BASE: u32 = 0x2000_0000;
+const FIRST_THREAD: u32 = BASE + 0x1000;
 const KINDS: [&str; 8] = [
     "pump",
     "motor control",
@@ -65,7 +67,40 @@ impl Dump {
 
 /// At irregular distances; the factor is odd, so that all are distinct.
 pub const fn thread(index: usize) -> u32 {
-    BASE + 0x1000 + 4 * ((index as u32).wrapping_mul(0x9E37_79B1) & 0x3_FFFF)
+    FIRST_THREAD + 4 * ((index as u32).wrapping_mul(0x9E37_79B1) & 0x3_FFFF)
+}
+
+/// So many different pointers.
+pub type Shape = fn(usize) -> Vec<u32>;
+
+pub const SHAPES: [(&str, Shape); 6] = [
+    ("irregular", |count| (0..count).map(thread).collect()),
+    ("drawn", drawn),
+    ("256", |count| apart(256, count)),
+    ("4096", |count| apart(4_096, count)),
+    // The lower halves are all equal.
+    ("65536", |count| apart(65_536, count)),
+    ("crowded", crowded),
+];
+
+/// The irregular ones are multiples of a factor, which a product places evenly; these meet as often as chance has it.
+fn drawn(count: usize) -> Vec<u32> {
+    let mut chance = Chance::new(1);
+    let pointer = |_| FIRST_THREAD + 4 * chance.below(0x800_0000) as u32;
+    (0..count).map(pointer).collect()
+}
+
+fn apart(distance: u32, count: usize) -> Vec<u32> {
+    let pointer = |index| FIRST_THREAD + distance * index;
+    (0..count as u32).map(pointer).collect()
+}
+
+/// All at one place of the library's index, as someone would choose them who knows how it places them.
+fn crowded(count: usize) -> Vec<u32> {
+    let place = |pointer: u32| u64::from(pointer) * 2_654_435_769 / (1 << 21) % 2_048;
+    let aligned = (FIRST_THREAD..).step_by(4);
+    let together = aligned.filter(|pointer| place(*pointer) == place(FIRST_THREAD));
+    together.take(count).collect()
 }
 
 /// No entries and no events.
@@ -129,15 +164,21 @@ pub fn with_entries() -> Dump {
 
 /// So many events and so many entries; the events leap about among the last so many threads.
 pub fn growing(events: usize, entries: usize, threads: usize) -> Dump {
-    let length = 48 + 20 * entries + 32 * events;
-    let mut dump = Dump::formatted(length, LITTLE, 4, entries, 4_711);
-    for index in 0..entries {
-        dump.register(thread(index), &index.to_string());
+    let pointers: Vec<u32> = (0..entries.max(1)).map(thread).collect();
+    let running = &pointers[pointers.len() - threads..];
+    leaping(events, &pointers[..entries], running)
+}
+
+/// So many events, which leap about among the running threads; the named ones have an entry each.
+pub fn leaping(events: usize, named: &[u32], running: &[u32]) -> Dump {
+    let length = 48 + 20 * named.len() + 32 * events;
+    let mut dump = Dump::formatted(length, LITTLE, 4, named.len(), 4_711);
+    for (index, pointer) in named.iter().enumerate() {
+        dump.register(*pointer, &index.to_string());
     }
     let mut stream = Stream::new();
     for turn in 0..events {
-        let index = entries.max(1) - threads + 7 * turn % threads;
-        dump.record(stream.thread(thread(index)));
+        dump.record(stream.thread(running[7 * turn % running.len()]));
     }
     dump
 }

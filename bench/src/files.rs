@@ -1,6 +1,6 @@
 //! Writes dumps and the library's answers into a folder, once every competitor in Rust has given the same.
 
-use crate::competitors::{CHECKERS, FINDERS, LISTERS, PRINTERS, RECORDERS};
+use crate::competitors::{Lister, CHECKERS, FINDERS, PRINTERS, RECORDERS};
 use crate::dumps::{full, with_names, Dump, LITTLE};
 use crate::jobs::{Job, Work, JOBS, RECORDED};
 use crate::numbers::fixed;
@@ -28,18 +28,18 @@ fn write_dump(folder: &Path, name: &str, dump: &Dump) -> io::Result<()> {
 fn answer(job: &Job) -> Vec<u8> {
     let dump = (job.dump)();
     match job.work {
-        Work::List => agreed_listing(&dump),
+        Work::List(listers) => agreed_listing(&dump, listers),
         Work::Check(expected) => checked(&dump, expected).into_bytes(),
         Work::Find(pointer, expected) => found(&dump, pointer, expected).to_vec(),
         Work::Record => recorded(&dump),
     }
 }
 
-pub fn agreed_listing(dump: &Dump) -> Vec<u8> {
-    agreed(LISTERS.map(|(name, list)| {
+pub fn agreed_listing(dump: &Dump, listers: &[(&'static str, Lister)]) -> Vec<u8> {
+    agreed(listers.iter().map(|(name, list)| {
         let mut out = Vec::new();
         let length = list(&dump.bytes, dump.reading, &mut out);
-        (name, out[..length].to_vec())
+        (*name, out[..length].to_vec())
     }))
 }
 

@@ -1,7 +1,7 @@
 //! The jobs, and how they are timed.
 
 use crate::competitors::{Checker, Finder, Lister, Printer, Reader, Recorder};
-use crate::competitors::{CHECKERS, FINDERS, LISTERS, PRINTERS, READERS, RECORDERS};
+use crate::competitors::{CHECKERS, FINDERS, LISTERS, PRINTERS, READERS, RECORDERS, ROOMS};
 use crate::contest::{contest, opaque, Competitor, Measure};
 use crate::dumps::{empty, full, thread, with_entries, with_names, without_id, Dump, BIG, LITTLE};
 use crate::numbers::fixed;
@@ -10,9 +10,9 @@ use crate::plain::Refusal;
 /// How many events are recorded in a call where recording is timed.
 pub const RECORDED: u32 = 1_000_000;
 
-/// What is done to a dump; for a check and a search, what must come of it.
+/// What is done to a dump; for a listing, by whom; for a check and a search, what must come of it.
 pub enum Work {
-    List,
+    List(&'static [(&'static str, Lister)]),
     Check(Result<usize, Refusal>),
     Find(u32, &'static [u8]),
     Record,
@@ -25,9 +25,11 @@ pub struct Job {
 }
 
 /// All but the numbers, which have no dump.
-pub const JOBS: [Job; 10] = [
-    job("listing-full", || full(LITTLE), Work::List),
-    job("listing-names", with_names, Work::List),
+pub const JOBS: [Job; 12] = [
+    job("listing-full", || full(LITTLE), Work::List(&LISTERS)),
+    job("listing-big", || full(BIG), Work::List(&LISTERS)),
+    job("listing-exact", || full(LITTLE), Work::List(&ROOMS)),
+    job("listing-names", with_names, Work::List(&LISTERS)),
     job("check", || full(LITTLE), Work::Check(Ok(2_046))),
     job("check-big", || full(BIG), Work::Check(Ok(2_046))),
     job("check-entries", with_entries, Work::Check(Ok(1_109))),
@@ -69,7 +71,7 @@ fn time(job: &Job, rounds: usize) {
         competitors.extend(READERS.map(|entry| reader(entry, &dump)));
     }
     let (calls, parts, rounds) = match job.work {
-        Work::List => (1, 1, rounds),
+        Work::List(_) => (1, 1, rounds),
         Work::Check(_) | Work::Find(..) => (20, 1, rounds),
         // A million events take as long as a hundred listings.
         Work::Record => (1, RECORDED as usize, (rounds / 20).max(3)),
@@ -80,7 +82,7 @@ fn time(job: &Job, rounds: usize) {
 /// Who competes on the dump, which is the job's; so many events are recorded in a call.
 pub fn competitors<'a>(job: &Job, dump: &'a Dump, recorded: u32) -> Vec<Competitor<'a>> {
     match job.work {
-        Work::List => LISTERS.map(|entry| lister(entry, dump)).into(),
+        Work::List(listers) => listers.iter().map(|entry| lister(*entry, dump)).collect(),
         Work::Check(_) => CHECKERS.map(|entry| checker(entry, dump)).into(),
         Work::Find(pointer, _) => FINDERS.map(|entry| finder(entry, dump, pointer)).into(),
         Work::Record => RECORDERS

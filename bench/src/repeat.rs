@@ -16,7 +16,7 @@ pub fn run(job: &str, competitor: &str, times: u32) -> Option<()> {
         opaque((competitor.call)());
     }
     let parts = match job.work {
-        Work::List => dump.events,
+        Work::List(_) => dump.events,
         Work::Check(_) | Work::Find(..) => 1,
         Work::Record => RECORDED as usize,
     };

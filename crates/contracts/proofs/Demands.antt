@@ -1,7 +1,8 @@
 -- What the demands say of the definitions holds of what the contracts allow.
-use Prim.Native.Nat.{ℕ}
+use Prim.Native.Nat.{ℕ, _^_, _≤_, _<_}
 use mathlib.Core.List.{List}
 use mathlib.Core.Path.{_≡_, sym, ap, _∙_}
+use native.Mathlib.Omega.{arith}
 use denote.Ref.{now}
 use lib.ListN.{drop, length, take}
 use lib.Seq.{take-at}
@@ -15,8 +16,8 @@ use Rattle.events.specs.declared.Listed.the-variants.{Written}
 use Rattle.lepsaino_c.specs.Answers.{GaveNumbers, listedAnswer}
 use Rattle.lepsaino_c.specs.declared.answers.Answer.{Answer}
 use Rattle.rows.specs.Rows.{Accepted, Row}
-use Rattle.text.proofs.Output.{is-put, some-said}
-use Rattle.text.specs.Output.{Put, printed}
+use Rattle.text.proofs.Output.{fitted-all, fitted-same, is-put, some-said}
+use Rattle.text.specs.Output.{Fitted, Put, printed}
 use Rattle.writing.specs.Writing.{Change, formatting, outcomeTold, recording, registering, removing}
 use Rattle.writing.specs.declared.Outcome.{Outcome}
 use Rattle.contracts.specs.Calls.{Changed}
@@ -47,6 +48,13 @@ front text old new n put some =
     let done = is-put text old (some-said text old put some) put in
     ap (take n) (done .bytes) ∙ take-at text (drop (length text) old) n (sym (done .count))
 
+-- and where one has fitted its text in
+fitted-front : (text old new : List ℕ) (n : ℕ) → Fitted text old new n → n ≤ length new → length new < 2 ^ 63 → take n new ≡ text
+fitted-front text old new n fitted room short =
+    let same = fitted-same text old (fitted .bytes) in
+    let done = fitted-all text (omega arith) (omega (arith, fitted .count)) fitted in
+    ap (take n) (done .bytes) ∙ take-at text (drop (length text) old) n (sym (done .count))
+
 -- what a line or a listing for C has written, where it was accepted
 handed : (rows : List Row) (text old new : List ℕ) (x : Answer) → Accepted rows → GaveNumbers rows text old new x
     → Gave rows text old new (Written (length text)) × (x .value ≡ length text)
@@ -60,6 +68,8 @@ numbers-leave = record {
   listing = λ κs a p n written. demands .second .numbers _ _ _ _ n (rw written at (calls .listing κs a p));
   «put_line» = λ κs a p some. ap jsonNumbers (front _ _ _ _ (p .allowed) some) ∙ one-line-numbers _ _;
   «put_number» = λ κs a p some. ap jsonNumbers (front _ _ _ _ (p .allowed) some) ∙ one-number _;
+  «fit_line» = λ κs a p room short. ap jsonNumbers (fitted-front _ _ _ _ (p .allowed) room short) ∙ one-line-numbers _ _;
+  «fit_number» = λ κs a p room short. ap jsonNumbers (fitted-front _ _ _ _ (p .allowed) room short) ∙ one-number _;
   «lepsaino_line» = λ κs a p none.
       let (wrote, size) = handed _ _ _ _ _ (zero-accepts .line _ _ _ _ _ _ (p .allowed) none) (p .allowed) in
       ap (λ (n : ℕ). jsonNumbers (take n (p .left .1 .1 .1 .0))) size ∙ demands .second .line-numbers _ _ _ _ _ _ wrote;

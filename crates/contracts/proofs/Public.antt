@@ -86,19 +86,23 @@ library = record {
   output = record {
     «put_bytes» = leaves (λ κs a x e p. (p .count, p .bytes)) (λ κs a v w e i. (e i, v .1));
     sum = equation (λ κs a v w. refl);
+    «if_room» = equation (λ κs a v w. refl);
   };
   numbers = record {
     «is_bare» = equation (λ κs a v w. refl);
     «number_length» = bounded (λ κs a v w. refl);
     «put_number» = leaves (λ κs a x e p. (p .count, p .bytes)) (λ κs a v w e i. (e i, v .1));
+    «fit_number» = leaves (λ κs a x e p. (p .count, p .bytes)) (λ κs a v w e i. (e i, v .1));
   };
   names = record {
     «name_length» = equation (λ κs a v w. refl);
     «put_name» = leaves (λ κs a x e p. (p .count, p .bytes)) (λ κs a v w e i. (e i, v .1));
+    «fit_name» = leaves (λ κs a x e p. (p .count, p .bytes)) (λ κs a v w e i. (e i, v .1));
   };
   lines = record {
     «line_length» = equation (λ κs a v w. refl);
     «put_line» = leaves (λ κs a x e p. (p .count, p .bytes)) (λ κs a v w e i. (e i, v .1));
+    «fit_line» = leaves (λ κs a x e p. (p .count, p .bytes)) (λ κs a v w e i. (e i, v .1));
   };
   finder = record {
     «find_name» = equation (λ κs a v w. refl);

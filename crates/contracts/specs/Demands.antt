@@ -1,5 +1,5 @@
 -- The first demand of the nine calls of document 01, and the last clause of the second of whatever prints, of the functions themselves: whatever answers their contracts allow.
-use Prim.Native.Nat.{ℕ}
+use Prim.Native.Nat.{ℕ, _^_, _≤_, _<_}
 use mathlib.Core.List.{[], _∷_, map}
 use mathlib.Core.Path.{_≡_}
 use denote.Ref.{now}
@@ -83,6 +83,13 @@ pub record NumbersLeave : Type 0 where
   pub «put_number» : Allows numbers.«put_number».ended numbers.«put_number».Reads.Learnt (λ κs a x last.
       let number = a .1 .0 in let new = last .0 in
       (x ≡ 0 → ⊥) → jsonNumbers (take x new) ≡ map digits (keep isBare (number ∷ [])))
+  -- fit_line(out, line, named, bytes), fit_number(out, number): where the length that is answered is no more than the output's; no slice is longer than that
+  pub «fit_line» : Allows lines.«fit_line».ended lines.«fit_line».Reads.Learnt (λ κs a x last.
+      let line = a .1 .0 in let new = last .0 in
+      x ≤ length new → length new < 2 ^ 63 → jsonNumbers (take x new) ≡ map digits (keep isBare (numbersOf line)))
+  pub «fit_number» : Allows numbers.«fit_number».ended numbers.«fit_number».Reads.Learnt (λ κs a x last.
+      let number = a .1 .0 in let new = last .0 in
+      x ≤ length new → length new < 2 ^ 63 → jsonNumbers (take x new) ≡ map digits (keep isBare (number ∷ [])))
   -- the calls for C that print
   pub «lepsaino_line» : Allows interface.«lepsaino_line».ended interface.«lepsaino_line».Reads.Learnt (λ κs a x last.
       let s = now (a .0) in let reading = a .1 .0 in let position = a .1 .1 .0 in let new = last .1 .1 .1 .0 in

@@ -68,19 +68,23 @@ pub record Doubles : Type 0 where
 pub record Output : Type 0 where
   pub «put_bytes» : Settled output.«put_bytes».ended output.«put_bytes».Reads.Asked output.«put_bytes».Reads.Learnt
   pub sum : Settled output.sum.ended output.sum.Reads.Asked output.sum.Reads.Learnt
+  pub «if_room» : Settled output.«if_room».ended output.«if_room».Reads.Asked output.«if_room».Reads.Learnt
 
 pub record Numbers : Type 0 where
   pub «is_bare» : Settled numbers.«is_bare».ended numbers.«is_bare».Reads.Asked numbers.«is_bare».Reads.Learnt
   pub «number_length» : Settled numbers.«number_length».ended numbers.«number_length».Reads.Asked numbers.«number_length».Reads.Learnt
   pub «put_number» : Settled numbers.«put_number».ended numbers.«put_number».Reads.Asked numbers.«put_number».Reads.Learnt
+  pub «fit_number» : Settled numbers.«fit_number».ended numbers.«fit_number».Reads.Asked numbers.«fit_number».Reads.Learnt
 
 pub record Names : Type 0 where
   pub «name_length» : Settled names.«name_length».ended names.«name_length».Reads.Asked names.«name_length».Reads.Learnt
   pub «put_name» : Settled names.«put_name».ended names.«put_name».Reads.Asked names.«put_name».Reads.Learnt
+  pub «fit_name» : Settled names.«fit_name».ended names.«fit_name».Reads.Asked names.«fit_name».Reads.Learnt
 
 pub record Lines : Type 0 where
   pub «line_length» : Settled lines.«line_length».ended lines.«line_length».Reads.Asked lines.«line_length».Reads.Learnt
   pub «put_line» : Settled lines.«put_line».ended lines.«put_line».Reads.Asked lines.«put_line».Reads.Learnt
+  pub «fit_line» : Settled lines.«fit_line».ended lines.«fit_line».Reads.Asked lines.«fit_line».Reads.Learnt
 
 pub record Finder : Type 0 where
   pub «find_name» : Settled finder.«find_name».ended finder.«find_name».Reads.Asked finder.«find_name».Reads.Learnt

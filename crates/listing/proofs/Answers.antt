@@ -1,15 +1,16 @@
 -- What a call gives by rows, some of which it has checked already.
-use Prim.Native.Nat.{ℕ, _≤_, _<_}
+use Prim.Native.Nat.{ℕ, _-_, _^_, _≤_, _<_}
 use mathlib.Core.List.{List, [], _∷_, _++_}
 use mathlib.Core.Path.{_≡_, refl}
+use native.Mathlib.Omega.{arith}
 use borrow.Author.Tests.{le-leb, le-ltb, lt-leb, lt-ltb}
 use lib.ListN.{length}
 use Rattle.rows.proofs.Rows.{then-refused, then-rest}
 use Rattle.rows.specs.Rows.{Row, firstBroken}
 use Rattle.rows.specs.declared.Refusal.{Refusal}
 use Rattle.rows.specs.declared.Verdict.the-variants.{Passed, Refused}
-use Rattle.text.proofs.Output.{is-put, not-put, some-said, zero-said}
-use Rattle.text.specs.Output.{Put, printed}
+use Rattle.text.proofs.Output.{fitted-all, fitted-none, fitted-same}
+use Rattle.text.specs.Output.{Fitted, Put}
 use Rattle.trace.specs.Table.{row16, row25}
 use Rattle.events.specs.Listing.{Gave}
 use Rattle.events.specs.declared.Listed.{Listed}
@@ -37,17 +38,17 @@ module _ (text : List ℕ) {old : List ℕ} where
   unfolding firstBroken row16
   gave-none long = rw (lt-ltb (length old) (length text) long) record { answered = refl; output = refl }
 
-  -- by the answer of a printer: 0 says that there was no room, since no text is empty
-  pub gave-zero : {new : List ℕ} {n : ℕ} → 1 ≤ length text → Put (printed text old) old new n → n ≡ 0
+  -- by the length of a text that was fitted in
+  pub gave-short : {new : List ℕ} {n : ℕ} → length old < 2 ^ 64 - 1 → Fitted text old new n → length new < n
       → Gave (row16 (length text) (length old) ∷ []) text old new (listed.Refused (record { number = 16; place = 0 }))
-  gave-zero filled put none =
-      let long = zero-said text old filled put none in
-      rw (not-put text old long put .1) (gave-none long)
+  gave-short size fitted past =
+      let long : length old < length text = omega (arith, fitted .count, fitted-same text old (fitted .bytes)) in
+      rw (fitted-none text long fitted) (gave-none long)
 
-  pub gave-some : {new : List ℕ} {n : ℕ} → Put (printed text old) old new n → (n ≡ 0 → ⊥) → Gave (row16 (length text) (length old) ∷ []) text old new (listed.Written n)
-  gave-some put some =
-      let fits = some-said text old put some in
-      gave-text fits (is-put text old fits put)
+  pub gave-fitted : {new : List ℕ} {n : ℕ} → length old < 2 ^ 64 - 1 → Fitted text old new n → n ≤ length new → Gave (row16 (length text) (length old) ∷ []) text old new (listed.Written n)
+  gave-fitted size fitted room =
+      let fits : length text ≤ length old = omega (arith, fitted .count, fitted-same text old (fitted .bytes)) in
+      gave-text fits (fitted-all text (omega arith) fits fitted)
 
 -- whether there is an event at a position
 pub no-event : (position events : ℕ) → events ≤ position → firstBroken (row25 position events ∷ []) ≡ Refused (record { number = 25; place = 0 })

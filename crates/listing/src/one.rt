@@ -1,5 +1,5 @@
 // One line by position.
-use crate::put_event;
+use crate::fit_event;
 use crate::reading_verdict;
 use dump::check;
 use events::Listed;
@@ -68,8 +68,8 @@ fn accepted_line(
         });
     }
     let event = event_at(dump, header, position);
-    let length = put_event(out, dump, event, reading, position);
-    if length == 0 {
+    let length = fit_event(out, dump, event, reading, position);
+    if out.len() < length {
         return Listed::Refused(Refusal {
             number: 16,
             place: 0,

@@ -6,7 +6,7 @@ ghost use Prim.Native.Nat.{_≤_, _<_, _^_};
 ghost use lib.Dec.{leb};
 ghost use lib.ListN.{length};
 ghost use Rattle.text.specs.Names.{escape, escaped, ifNamed, hexDigit, hexed, name, slashed};
-ghost use Rattle.text.specs.Output.{Put, capped, printed};
+ghost use Rattle.text.specs.Output.{Fitted, Put, capped, printed};
 
 // The length of a name's text, or of null where there is none; at most the largest usize.
 pub fn name_length(named: bool, bytes: &[u8]) -> usize
@@ -22,19 +22,28 @@ pub fn name_length(named: bool, bytes: &[u8]) -> usize
 pub fn put_name(out: &mut [u8], named: bool, bytes: &[u8]) -> usize
     ensures { λ r. ⌜ Put (printed (name (ifNamed named (now (bytes .entry)))) (now (out .entry))) (now (out .entry)) (now (out .exit)) r ⌝ }
 {
-    if named {
-        return put_some(out, bytes);
-    }
-    output::put_bytes(out, b"null")
+    let length = fit_name(out, named, bytes);
+    output::if_room(length, out.len())
 }
 
-fn put_some(out: &mut [u8], bytes: &[u8]) -> usize
-    ensures { λ r. ⌜ Put (printed (name (some (now (bytes .entry)))) (now (out .entry))) (now (out .entry)) (now (out .exit)) r ⌝ }
+// The same, but for its answer: the length, whether there is room or not; at most the largest usize.
+pub fn fit_name(out: &mut [u8], named: bool, bytes: &[u8]) -> usize
+    ensures { λ r. ⌜ Fitted (name (ifNamed named (now (bytes .entry)))) (now (out .entry)) (now (out .exit)) r ⌝ }
+{
+    if named {
+        return fit_some(out, bytes);
+    }
+    output::put_bytes(out, b"null");
+    4
+}
+
+fn fit_some(out: &mut [u8], bytes: &[u8]) -> usize
+    ensures { λ r. ⌜ Fitted (name (some (now (bytes .entry)))) (now (out .entry)) (now (out .exit)) r ⌝ }
 {
     if has_room(out.len(), bytes) {
         return put_quoted(out, bytes);
     }
-    0
+    name_length(true, bytes)
 }
 
 // Whether a name's text fits so much room. Where there is plenty the text is not measured.

@@ -5,7 +5,7 @@ ghost use lib.Dec.{ltb};
 ghost use lib.ListN.{length};
 ghost use Rattle.words.specs.Words.{joined};
 ghost use Rattle.text.specs.Numbers.{digits, isBare, number, pair, quoted};
-ghost use Rattle.text.specs.Output.{Put, Wrote, printed};
+ghost use Rattle.text.specs.Output.{Fitted, Put, Wrote, printed};
 ghost use Rattle.numbers.specs.Counts.{IsCount};
 ghost use Rattle.numbers.specs.Groups.{eight, four};
 
@@ -31,8 +31,16 @@ pub fn number_length(x: u64) -> usize
 pub fn put_number(out: &mut [u8], x: u64) -> usize
     ensures { λ r. ⌜ Put (printed (number x) (now (out .entry))) (now (out .entry)) (now (out .exit)) r ⌝ }
 {
+    let length = fit_number(out, x);
+    output::if_room(length, out.len())
+}
+
+// The same, but for its answer: the length, whether there is room or not.
+pub fn fit_number(out: &mut [u8], x: u64) -> usize
+    ensures { λ r. ⌜ Fitted (number x) (now (out .entry)) (now (out .exit)) r ⌝ }
+{
     if is_short(out.len(), x) {
-        return 0;
+        return number_length(x);
     }
     if x < 100000000 {
         return put_low(out, x as u32);

@@ -1,6 +1,8 @@
 // Copies bytes into lent output, and adds up lengths.
+ghost use mathlib.Core.Bool.{cond};
 ghost use mathlib.Core.Path.{_≡_};
 ghost use Prim.Native.Nat.{_+_};
+ghost use lib.Dec.{leb};
 ghost use Rattle.text.specs.Output.{Put, capped, printed};
 
 // The bytes at the front of the output, and their number; nothing, and 0, where there is no room.
@@ -26,4 +28,14 @@ pub fn sum(a: usize, b: usize) -> usize
         return usize::MAX;
     }
     a + b
+}
+
+// What a printer answers that wrote a text of this length if there was so much room: the length, or 0.
+pub fn if_room(length: usize, room: usize) -> usize
+    ensures { λ r. ⌜ r ≡ cond (leb length room) length 0 ⌝ }
+{
+    if length <= room {
+        return length;
+    }
+    0
 }

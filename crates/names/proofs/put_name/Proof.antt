@@ -1,42 +1,21 @@
--- `names::put_name` meets its contract: the name, or null.
+-- `names::put_name` meets its contract: its length tells whether the name was written.
+use native.Mathlib.Omega.{arith}
 use borrow.Author.Needs.{needs}
-use Rattle.text.proofs.Escapes.{name-none, name-some}
+use Rattle.text.proofs.Output.{fitted-put}
 use Rattle.names.proofs.put_name.Statement.{statement}
 use Rattle.names.proofs.put_name.Tie as tie
 
-put-some-requires : tie.Need-put-some-requires
-put-some-requires c κs = search needs
+fit-name-requires : tie.Need-fit-name-requires
+fit-name-requires c κs = search needs
+
+if-room-requires : tie.Need-if-room-requires
+if-room-requires c κs = search needs
 
 same-length : tie.Need-same-length
 same-length c = search needs
 
 returns : tie.Need-returns
-returns c =
-    let s = c .before .before .before .before .before .before .before in
-    rw (name-some (s .args .named) (s .args .bytes .now) (c .before .before .before .before .if1 .taken)) (c .before .before .put-some .ensures)
-
-slice-aggregate-put-bytes : tie.Need-slice-aggregate-put-bytes
-slice-aggregate-put-bytes c = search needs
-
-put-bytes-requires : tie.Need-put-bytes-requires
-put-bytes-requires c κs = search needs
-
-same-length-2 : tie.Need-same-length-2
-same-length-2 c = search needs
-
-returns-2 : tie.Need-returns-2
-returns-2 c =
-    let s = c .before .before .before .before .before .before .before .before in
-    rw (name-none (s .args .named) (s .args .bytes .now) (c .before .before .before .before .before .if1 .left)) (c .before .before .put-bytes .ensures)
+returns c = fitted-put _ (omega arith) (c .before .before .before .fit-name .ensures) (c .if-room .ensures)
 
 pub put-name-spec : {M : Type 1} → statement M
-put-name-spec =
-    tie.close
-    (tie.spec
-    put-some-requires
-    same-length
-    returns
-    slice-aggregate-put-bytes
-    put-bytes-requires
-    same-length-2
-    returns-2)
+put-name-spec = tie.close (tie.spec fit-name-requires if-room-requires same-length returns)

@@ -1,17 +1,15 @@
--- `listing::one::accepted_line` meets its contract: row 16 follows row 25, and the printer's 0 is row 16's refusal.
+-- `listing::one::accepted_line` meets its contract: row 16 follows row 25, and the line's length decides it.
 use Prim.Native.Nat.{_<_}
 use mathlib.Core.List.{[], _∷_}
 use mathlib.Core.Path.{_≡_, _∙_}
 use native.Mathlib.Omega.{arith}
 use lib.ListN.{length}
-use Rattle.text.proofs.Filled.{line-some}
-use Rattle.trace.specs.Names.{nameBytes}
 use Rattle.trace.specs.Slots.{eventCount}
 use Rattle.trace.specs.Table.{row16, row25}
 use Rattle.events.specs.Events.{eventAt, eventIn}
-use Rattle.events.specs.Listing.{fields, lineAt, lineOf}
+use Rattle.events.specs.Listing.{lineAt}
 use Rattle.walk.proofs.Walks.{event-met}
-use Rattle.listing.proofs.Answers.{an-event, gave-more, gave-refused, gave-some, gave-zero, no-event}
+use Rattle.listing.proofs.Answers.{an-event, gave-more, gave-refused, gave-fitted, gave-short, no-event}
 use Rattle.listing.proofs.Fitting.{fits}
 use borrow.Author.Needs.{needs}
 use Rattle.listing.proofs.one.accepted_line.Statement.{statement}
@@ -34,9 +32,9 @@ returns c =
 event-at-requires : tie.Need-event-at-requires
 event-at-requires c κs = search needs
 
-put-event-requires : tie.Need-put-event-requires
+fit-event-requires : tie.Need-fit-event-requires
 unfolding eventIn
-put-event-requires c κs =
+fit-event-requires c κs =
     let s = c .before .before .before .before .before in
     let a = s .args in
     rw (event-is (c .before)) (fits (a .dump .now) (a .header) (a .reading) (a .events) (a .position) (s .pre) (c .before .before .if1 .left))
@@ -45,14 +43,12 @@ same-length : tie.Need-same-length
 same-length c = search needs
 
 returns-2 : tie.Need-returns-2
-unfolding lineOf
 returns-2 c =
     let a = c .before .before .before .before .before .before .before .before .before .args in
     let events = eventCount (a .dump .now) (a .header) in
     let text = lineAt (a .dump .now) (a .header) (a .reading) (a .position) in
-    let event = eventAt (a .dump .now) (a .header) (a .position) in
     gave-more (row25 (a .position) events ∷ []) (row16 (length text) (length (a .out .now)) ∷ []) (an-event (a .position) events (within (c .before .before .before .before .before .before)))
-    (gave-zero text (line-some (fields (a .reading) (a .position) event) (nameBytes (a .dump .now) (event .name))) (rw (event-is (c .before .before .before .before .before)) at (c .before .before .before .put-event .ensures)) (c .if2 .taken))
+    (gave-short text (omega arith) (rw (event-is (c .before .before .before .before .before)) at (c .before .before .before .fit-event .ensures)) (c .if2 .taken))
 
 same-length-2 : tie.Need-same-length-2
 same-length-2 c = search needs
@@ -63,7 +59,7 @@ returns-3 c =
     let events = eventCount (a .dump .now) (a .header) in
     let text = lineAt (a .dump .now) (a .header) (a .reading) (a .position) in
     gave-more (row25 (a .position) events ∷ []) (row16 (length text) (length (a .out .now)) ∷ []) (an-event (a .position) events (within (c .before .before .before .before .before .before)))
-    (gave-some text (rw (event-is (c .before .before .before .before .before)) at (c .before .before .before .put-event .ensures)) (c .if2 .left))
+    (gave-fitted text (omega arith) (rw (event-is (c .before .before .before .before .before)) at (c .before .before .before .fit-event .ensures)) (c .if2 .left))
 
 pub accepted-line-spec : {M : Type 1} → statement M
 accepted-line-spec =
@@ -71,7 +67,7 @@ accepted-line-spec =
     (tie.spec
     returns
     event-at-requires
-    put-event-requires
+    fit-event-requires
     same-length
     returns-2
     same-length-2
