@@ -7,7 +7,7 @@
  * - A length is at most PTRDIFF_MAX, as that of every object in C is.
  * - Bytes lent to be written overlap no other bytes lent to the same call, and nothing else reads or writes them before it returns.
  * - Nothing writes bytes lent to be read before the call returns.
- * - The stack has room: 24 KB for lepsaino_listing, 2 KB for any other call.
+ * - The stack has room: 14 KB for lepsaino_listing, 2 KB for any other call.
  *
  * A refusal is the number and the place of document 01's table, which stands at the end of this file; 0 as its number means that the call was
  * accepted. After a refusal every field but these two is 0, and no lent byte has changed. No call keeps a pointer, allocates, or reads or writes

@@ -1,19 +1,20 @@
 -- Each line is an object of RFC 8259: whatever the parts are, each is a member, where labels and words are plain and names are of bytes.
-use Prim.Native.Nat.{ℕ, suc, _+_, _*_, _/_, _%_, _<_}
+use Prim.Native.Nat.{ℕ, zero, suc, _+_, _*_, _/_, _%_, _≤_, _<_}
 use mathlib.Core.Bool.{Bool, true, false, and-eq-true-iff, not, _&&_}
 use mathlib.Core.List.{List, [], _∷_, _++_, append-assoc, append-nil, map}
 use mathlib.Core.Logic.{inl, inr}
 use mathlib.Core.Option.{Option, none, some}
-use mathlib.Core.Path.{_≡_, refl, ap}
+use mathlib.Core.Path.{_≡_, refl, sym, ap, _∙_}
 use native.Mathlib.Omega.{arith}
 use lib.Dec.{eqb}
 use borrow.Author.Tests.{eqb-false, not-true}
-use Rattle.text.proofs.ReadBack.{digits-integer}
+use Rattle.text.proofs.Digits.{by-tenths, digits-more, digits-one}
+use Rattle.text.proofs.ReadBack.{digits-back}
 use Rattle.text.specs.Ascii.{ascii, choose}
 use Rattle.text.specs.Lines.{Part, Value, line, listed, named, numeric, objectText, partText, parts, separated, valueText, word}
 use Rattle.text.specs.Names.{escape, escaped, hexDigit, name}
-use Rattle.text.specs.Numbers.{digits, isBare, number, quoted}
-use Rattle.text.specs.ReadBack.{AreDigits, IsInteger, IsName}
+use Rattle.text.specs.Numbers.{digit, digits, isBare, number, quoted}
+use Rattle.text.specs.ReadBack.{IsName, decimal, decimalAfter}
 use Rattle.text.specs.declared.Line.{Line}
 use Rattle.words.specs.Each.{Each}
 use Rattle.words.specs.Words.{AreBytes}
@@ -49,18 +50,31 @@ unfolding escaped
 escaped-chars [] all = json.no-char
 escaped-chars (b ∷ bytes) all = json.chars (escape-char b (all 0)) (escaped-chars bytes (λ i. all (suc i)))
 
--- digits are a number
-digits-are : (text : List ℕ) → AreDigits text → Digits text
-digits-are [] all = json.no-digit
-digits-are (d ∷ text) all = json.digit (all .0, all .1) (digits-are text (all .2))
+-- digits are an integer: a number but 0 starts at a digit from 1, and goes on with a digit more
+one-more : {text : List ℕ} (d : ℕ) → d < 10 → Digits text → Digits (text ++ (digit d ∷ []))
+one-more d below json.no-digit = json.digit {c = digit d} (omega arith) json.no-digit
+one-more d below (json.digit is more) = json.digit is (one-more d below more)
 
-int-is : (text : List ℕ) → IsInteger text → Int text
-int-is text (inl zero) = rw zero json.zero-alone
-int-is [] (inr starts) = absurd starts
-int-is (d ∷ text) (inr starts) = json.from-one (starts .0) (starts .1) (digits-are text (starts .2))
+int-more : {text : List ℕ} (d : ℕ) → d < 10 → (text ≡ 0x30 ∷ [] → ⊥) → Int text → Int (text ++ (digit d ∷ []))
+int-more d below other json.zero-alone = absurd (other refl)
+int-more d below other (json.from-one low high more) = json.from-one low high (one-more d below more)
+
+-- only 0 has that digit alone
+not-zero : (n : ℕ) → 1 ≤ n → digits n ≡ 0x30 ∷ [] → ⊥
+unfolding decimal decimalAfter
+not-zero n large same = omega (arith, sym (digits-back n) ∙ ap decimal same)
+
+pub digits-integer : (n : ℕ) → Int (digits n)
+digits-integer =
+    by-tenths (λ n. Int (digits n)) (λ n below. rw (digits-one n below) (one-digit n below))
+    (λ n large front. rw (digits-more n large) (int-more (n % 10) (omega arith) (not-zero (n / 10) (omega arith)) front))
+  where
+    one-digit : (n : ℕ) → n < 10 → Int (digit n ∷ [])
+    one-digit zero below = json.zero-alone
+    one-digit (suc n) below = json.from-one {c = digit (suc n)} (omega arith) (omega arith) json.no-digit
 
 pub digits-number : (n : ℕ) → Number (digits n)
-digits-number n = simp append-nil at (json.number-of json.no-minus (int-is (digits n) (digits-integer n)) json.no-frac json.no-exp)
+digits-number n = simp append-nil at (json.number-of json.no-minus (digits-integer n) json.no-frac json.no-exp)
 
 -- a value's text is that of a value of the grammar
 abbrev Written : List ℕ → Type 0

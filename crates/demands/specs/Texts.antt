@@ -8,12 +8,13 @@ use Rattle.text.specs.Lines.{line}
 use Rattle.text.specs.Names.{name}
 use Rattle.text.specs.Numbers.{digits, number}
 use Rattle.text.specs.Output.{Put, printed}
-use Rattle.text.specs.ReadBack.{IsInteger, IsName, readName, readNumber}
+use Rattle.text.specs.ReadBack.{IsName, readName, readNumber}
 use Rattle.text.specs.declared.Line.{Line}
+use Rattle.demands.specs.Json.{Int}
 
 pub record Texts : Type 0 where
   -- digits are an integer of JSON
-  pub digits-integer : (n : ℕ) → IsInteger (digits n)
+  pub digits-integer : (n : ℕ) → Int (digits n)
   -- a number's text reads back to the number, bare or quoted, and a name's to the name, or to none
   pub number-back : (n : ℕ) → readNumber (number n) ≡ n
   pub name-back : (n : Option (List ℕ)) → IsName n → readName (name n) ≡ n

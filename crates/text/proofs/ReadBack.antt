@@ -2,7 +2,7 @@
 use Prim.Native.Nat.{ℕ, zero, suc, _+_, _-_, _*_, _/_, _%_, _≤_, _<_}
 use mathlib.Core.Bool.{Bool, true, false}
 use mathlib.Core.List.{List, [], _∷_, _++_}
-use mathlib.Core.Logic.{inl, inr, ⊎-elim}
+use mathlib.Core.Logic.{⊎-elim}
 use mathlib.Core.Option.{Option, none, some}
 use mathlib.Core.Path.{_≡_, refl, sym, ap, _∙_}
 use native.Mathlib.Omega.{arith}
@@ -14,7 +14,7 @@ use Rattle.words.specs.Words.{AreBytes}
 use Rattle.text.specs.Ascii.{ascii, choose}
 use Rattle.text.specs.Names.{escape, escaped, hexDigit, name}
 use Rattle.text.specs.Numbers.{digit, digits, isBare, number, quoted}
-use Rattle.text.specs.ReadBack.{AreDigits, IsInteger, IsName, StartsAtOne, decimal, decimalAfter, firstByte, firstLength, hexValue, inside, isQuoted, readName, readNumber, unescaped, unescapedIn}
+use Rattle.text.specs.ReadBack.{IsName, decimal, decimalAfter, firstByte, firstLength, hexValue, inside, isQuoted, readName, readNumber, unescaped, unescapedIn}
 use Rattle.text.proofs.Digits.{by-tenths, digits-one, digits-more}
 use Rattle.text.proofs.Escapes.{by-kind, escape-long}
 
@@ -24,27 +24,9 @@ unfolding decimalAfter
 decimal-next n d [] = omega arith
 decimal-next n d (e ∷ ds) = decimal-next (n * 10 + (e - 48)) d ds
 
-digits-back : (n : ℕ) → decimal (digits n) ≡ n
+pub digits-back : (n : ℕ) → decimal (digits n) ≡ n
 unfolding decimal decimalAfter
 digits-back = by-tenths (λ n. decimal (digits n) ≡ n) (λ n h. rw (digits-one n h) (omega arith)) (λ n h r. rw (digits-more n h, decimal-next 0 (n % 10) (digits (n / 10)), r) (omega arith))
-
--- a digit more, after digits and after a first one
-are-more : (ds : List ℕ) (k : ℕ) → k < 10 → AreDigits ds → AreDigits (ds ++ (digit k ∷ []))
-are-more [] k h all = (omega arith, omega arith, tt)
-are-more (d ∷ ds) k h all = (all .0, all .1, are-more ds k h (all .2))
-
-starts-more : (ds : List ℕ) (k : ℕ) → k < 10 → StartsAtOne ds → StartsAtOne (ds ++ (digit k ∷ []))
-starts-more [] k h start = absurd start
-starts-more (d ∷ ds) k h start = (start .0, start .1, are-more ds k h (start .2))
-
--- a number but 0 starts at a digit from 1
-starts : (n : ℕ) → 1 ≤ n → StartsAtOne (digits n)
-starts = by-tenths (λ n. 1 ≤ n → StartsAtOne (digits n)) (λ n h some. rw (digits-one n h) (omega arith, omega arith, tt)) (λ n h r some. rw (digits-more n h) (starts-more (digits (n / 10)) (n % 10) (omega arith) (r (omega arith))))
-
--- digits are an integer of JSON
-pub digits-integer : (n : ℕ) → IsInteger (digits n)
-digits-integer zero = inl (digits-one 0 (omega arith))
-digits-integer (suc n) = inr (starts (suc n) (omega arith))
 
 -- what stands between quotes
 inside-quotes : (text : List ℕ) → inside (quoted text) ≡ text
