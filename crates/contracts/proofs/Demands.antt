@@ -7,7 +7,7 @@ use denote.Ref.{now}
 use lib.ListN.{drop, length, take}
 use lib.Seq.{take-at}
 use Rattle.demands.proofs.Demands.{demands}
-use Rattle.demands.proofs.JsonNumbers.{one-line-numbers, one-number}
+use Rattle.demands.proofs.JsonNumbers.{one-line-numbers, one-name, one-number}
 use Rattle.demands.specs.Demands.{Writes}
 use Rattle.demands.specs.JsonNumbers.{jsonNumbers}
 use Rattle.demands.specs.Refusals.{RefusesAndKeeps}
@@ -68,8 +68,10 @@ numbers-leave = record {
   listing = λ κs a p n written. demands .second .numbers _ _ _ _ n (rw written at (calls .listing κs a p));
   «put_line» = λ κs a p some. ap jsonNumbers (front _ _ _ _ (p .allowed) some) ∙ one-line-numbers _ _;
   «put_number» = λ κs a p some. ap jsonNumbers (front _ _ _ _ (p .allowed) some) ∙ one-number _;
+  «put_name» = λ κs a p some. ap jsonNumbers (front _ _ _ _ (p .allowed) some) ∙ one-name _;
   «fit_line» = λ κs a p room short. ap jsonNumbers (fitted-front _ _ _ _ (p .allowed) room short) ∙ one-line-numbers _ _;
   «fit_number» = λ κs a p room short. ap jsonNumbers (fitted-front _ _ _ _ (p .allowed) room short) ∙ one-number _;
+  «fit_name» = λ κs a p room short. ap jsonNumbers (fitted-front _ _ _ _ (p .allowed) room short) ∙ one-name _;
   «lepsaino_line» = λ κs a p none.
       let (wrote, size) = handed _ _ _ _ _ (zero-accepts .line _ _ _ _ _ _ (p .allowed) none) (p .allowed) in
       ap (λ (n : ℕ). jsonNumbers (take n (p .left .1 .1 .1 .0))) size ∙ demands .second .line-numbers _ _ _ _ _ _ wrote;

@@ -15,6 +15,7 @@ use Rattle.formatter.proofs as formatter
 use Rattle.lepsaino_c.proofs as interface
 use Rattle.lines.proofs as lines
 use Rattle.listing.proofs as listing
+use Rattle.names.proofs as names
 use Rattle.numbers.proofs as numbers
 use Rattle.recorder.proofs as recorder
 use Rattle.registrar.proofs as registrar
@@ -76,20 +77,26 @@ pub record NumbersLeave : Type 0 where
   pub listing : Allows listing.listing.ended listing.listing.Reads.Learnt (λ κs a x last.
       let s = now (a .0) in let reading = a .1 .0 in let new = last .1 .1 .0 in
       (n : ℕ) → x ≡ listed.Written n → jsonNumbers (take n new) ≡ map digits (keep isBare (listedNumbers s (headerOf s) reading)))
-  -- put_line(out, line, named, bytes), put_number(out, number): where something was written
+  -- put_line(out, line, named, bytes), put_number(out, number), put_name(out, named, bytes): where something was written
   pub «put_line» : Allows lines.«put_line».ended lines.«put_line».Reads.Learnt (λ κs a x last.
       let line = a .1 .0 in let new = last .0 in
       (x ≡ 0 → ⊥) → jsonNumbers (take x new) ≡ map digits (keep isBare (numbersOf line)))
   pub «put_number» : Allows numbers.«put_number».ended numbers.«put_number».Reads.Learnt (λ κs a x last.
       let number = a .1 .0 in let new = last .0 in
       (x ≡ 0 → ⊥) → jsonNumbers (take x new) ≡ map digits (keep isBare (number ∷ [])))
-  -- fit_line(out, line, named, bytes), fit_number(out, number): where the length that is answered is no more than the output's; no slice is longer than that
+  pub «put_name» : Allows names.«put_name».ended names.«put_name».Reads.Learnt (λ κs a x last.
+      let new = last .0 in
+      (x ≡ 0 → ⊥) → jsonNumbers (take x new) ≡ [])
+  -- fit_line, fit_number and fit_name, which take the same: where the length that is answered is no more than the output's; no slice is longer than that
   pub «fit_line» : Allows lines.«fit_line».ended lines.«fit_line».Reads.Learnt (λ κs a x last.
       let line = a .1 .0 in let new = last .0 in
       x ≤ length new → length new < 2 ^ 63 → jsonNumbers (take x new) ≡ map digits (keep isBare (numbersOf line)))
   pub «fit_number» : Allows numbers.«fit_number».ended numbers.«fit_number».Reads.Learnt (λ κs a x last.
       let number = a .1 .0 in let new = last .0 in
       x ≤ length new → length new < 2 ^ 63 → jsonNumbers (take x new) ≡ map digits (keep isBare (number ∷ [])))
+  pub «fit_name» : Allows names.«fit_name».ended names.«fit_name».Reads.Learnt (λ κs a x last.
+      let new = last .0 in
+      x ≤ length new → length new < 2 ^ 63 → jsonNumbers (take x new) ≡ [])
   -- the calls for C that print
   pub «lepsaino_line» : Allows interface.«lepsaino_line».ended interface.«lepsaino_line».Reads.Learnt (λ κs a x last.
       let s = now (a .0) in let reading = a .1 .0 in let position = a .1 .1 .0 in let new = last .1 .1 .1 .0 in

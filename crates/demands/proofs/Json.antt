@@ -168,3 +168,7 @@ mutual
 
 pub numbers-found : (value : Value) → jsonNumbers (jsonText value) ≡ numbersInValue value
 numbers-found value = whole (value-has value)
+
+pub numbers-found-first : (value : Value) (more : List ℕ) → jsonNumbers (jsonText value ++ (0x0A ∷ more)) ≡ numbersInValue value ++ jsonNumbers more
+unfolding numbersRead
+numbers-found-first value more = value-has value .read (0x0A ∷ more) (λ bytes. refl)

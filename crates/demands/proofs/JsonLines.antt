@@ -1,154 +1,45 @@
--- Each line is an object of RFC 8259: whatever the parts are, each is a member, where labels and words are plain and names are of bytes.
-use Prim.Native.Nat.{ℕ, zero, suc, _+_, _*_, _/_, _%_, _≤_, _<_}
-use mathlib.Core.Bool.{Bool, true, false, and-eq-true-iff, not, _&&_}
-use mathlib.Core.List.{List, [], _∷_, _++_, append-assoc, append-nil, map}
-use mathlib.Core.Logic.{inl, inr}
-use mathlib.Core.Option.{Option, none, some}
-use mathlib.Core.Path.{_≡_, refl, sym, ap, _∙_}
+-- Each line is an object of RFC 8259 with the members of document 01: it is that of its parts.
+use Prim.Native.Nat.{ℕ, _+_, _*_, _<_}
+use mathlib.Core.Bool.{Bool, true, and-eq-true-iff, not, _&&_}
+use mathlib.Core.List.{List, [], _∷_, map}
+use mathlib.Core.Option.{Option}
+use mathlib.Core.Path.{_≡_, sym, ap, _∙_}
+use native.Mathlib.Decide.{decLt}
 use native.Mathlib.Omega.{arith}
 use lib.Dec.{eqb}
+use lib.ListN.{List·getD-eq-default, drop, getD, take, length-take}
+use lib.Seq.{getD-drop, getD-take}
 use borrow.Author.Tests.{eqb-false, not-true}
-use Rattle.text.proofs.Digits.{by-tenths, digits-more, digits-one}
-use Rattle.text.proofs.ReadBack.{digits-back}
-use Rattle.text.specs.Ascii.{ascii, choose}
-use Rattle.text.specs.Lines.{Part, Value, line, listed, named, numeric, objectText, partText, parts, separated, valueText, word}
-use Rattle.text.specs.Names.{escape, escaped, hexDigit, name}
-use Rattle.text.specs.Numbers.{digit, digits, isBare, number, quoted}
-use Rattle.text.specs.ReadBack.{IsName, decimal, decimalAfter}
+use Rattle.events.specs.Events.{eventAt}
+use Rattle.events.specs.Listing.{fields, lineOf}
+use Rattle.text.specs.Lines.{line, numbersIn, objectText, parts, valueText}
+use Rattle.text.specs.ReadBack.{IsName}
 use Rattle.text.specs.declared.Line.{Line}
+use Rattle.trace.specs.Names.{nameBytes}
+use Rattle.trace.specs.declared.Name.{Name}
+use Rattle.trace.specs.declared.Name.the-variants.{Nameless, Named}
 use Rattle.words.specs.Each.{Each}
 use Rattle.words.specs.Words.{AreBytes}
-use Rattle.demands.specs.Json as json
-use Rattle.demands.specs.Json.{Char, Chars, Digits, Int, IsHexDigit, Members, Number, Str, Values, jsonText, memberNames, membersText, moreMembers, moreValues, valuesText}
-use Rattle.demands.specs.JsonLines.{Distinct, JsonLines, lineNames}
-use Rattle.demands.proofs.Json.{numbers-found}
-use Rattle.demands.proofs.Plain.{All, Plain, PlainPart, by-escape, by-hex, byte, digits-plain, line-plain, no-byte, wordIn}
+use Rattle.demands.specs.Json.{jsonText, object}
+use Rattle.demands.specs.JsonLines.{Distinct, IsObject, JsonLines, lineMembers}
+use Rattle.demands.proofs.Json.{numbers-found, numbers-found-first}
+use Rattle.demands.proofs.JsonNumbers.{object-numbers}
+use Rattle.demands.proofs.JsonTexts.{NamedPart, members, members-are, members-written}
+use Rattle.demands.proofs.Plain.{line-plain}
 
--- plain bytes are characters, and so are the escapes of bytes
-plain-char : {c : ℕ} → Plain c → Char (c ∷ [])
-plain-char plain = json.unescaped (plain .low) (omega arith) (plain .quote) (plain .slash)
-
-plain-chars : {text : List ℕ} → All Plain text → Chars text
-plain-chars no-byte = json.no-char
-plain-chars (byte plain more) = json.chars (plain-char plain) (plain-chars more)
-
-pub plain-string : {text : List ℕ} → All Plain text → Str (quoted text)
-unfolding quoted
-plain-string plain = json.string-of (plain-chars plain)
-
-hex-digit : (d : ℕ) → d < 16 → IsHexDigit (hexDigit d)
-hex-digit d below = by-hex d IsHexDigit (λ small. inl (omega arith)) (λ large. inr (inr (omega arith)))
-
-escape-char : (b : ℕ) → b < 256 → Char (escape b)
-escape-char b below =
-    by-escape b Char
-    (json.escape-hex (inl (omega arith)) (inl (omega arith)) (hex-digit (b / 16) (omega arith)) (hex-digit (b % 16) (omega arith)))
-    (json.escape json.quotation) (json.escape json.reverse-solidus) plain-char
-
-escaped-chars : (bytes : List ℕ) → AreBytes bytes → Chars (escaped bytes)
-unfolding escaped
-escaped-chars [] all = json.no-char
-escaped-chars (b ∷ bytes) all = json.chars (escape-char b (all 0)) (escaped-chars bytes (λ i. all (suc i)))
-
--- digits are an integer: a number but 0 starts at a digit from 1, and goes on with a digit more
-one-more : {text : List ℕ} (d : ℕ) → d < 10 → Digits text → Digits (text ++ (digit d ∷ []))
-one-more d below json.no-digit = json.digit {c = digit d} (omega arith) json.no-digit
-one-more d below (json.digit is more) = json.digit is (one-more d below more)
-
-int-more : {text : List ℕ} (d : ℕ) → d < 10 → (text ≡ 0x30 ∷ [] → ⊥) → Int text → Int (text ++ (digit d ∷ []))
-int-more d below other json.zero-alone = absurd (other refl)
-int-more d below other (json.from-one low high more) = json.from-one low high (one-more d below more)
-
--- only 0 has that digit alone
-not-zero : (n : ℕ) → 1 ≤ n → digits n ≡ 0x30 ∷ [] → ⊥
-unfolding decimal decimalAfter
-not-zero n large same = omega (arith, sym (digits-back n) ∙ ap decimal same)
-
-pub digits-integer : (n : ℕ) → Int (digits n)
-digits-integer =
-    by-tenths (λ n. Int (digits n)) (λ n below. rw (digits-one n below) (one-digit n below))
-    (λ n large front. rw (digits-more n large) (int-more (n % 10) (omega arith) (not-zero (n / 10) (omega arith)) front))
-  where
-    one-digit : (n : ℕ) → n < 10 → Int (digit n ∷ [])
-    one-digit zero below = json.zero-alone
-    one-digit (suc n) below = json.from-one {c = digit (suc n)} (omega arith) (omega arith) json.no-digit
-
-pub digits-number : (n : ℕ) → Number (digits n)
-digits-number n = simp append-nil at (json.number-of json.no-minus (digits-integer n) json.no-frac json.no-exp)
-
--- a value's text is that of a value of the grammar
-abbrev Written : List ℕ → Type 0
-Written text = (v : json.Value) × (jsonText v ≡ text)
-
-number-written : (n : ℕ) → Written (number n)
-unfolding number jsonText
-number-written n = by (isBare n)
-  where
-    by : (bare : Bool) → Written (choose bare (digits n) (quoted (digits n)))
-    by true = (json.number (digits-number n), refl)
-    by false = (json.string (plain-string (digits-plain n)), refl)
-
-name-written : (n : Option (List ℕ)) → IsName n → Written (name n)
-unfolding name quoted jsonText
-name-written none is = (json.literal json.null, refl)
-name-written (some bytes) is = (json.string (json.string-of (escaped-chars bytes is)), refl)
-
-numberValues : List ℕ → Values
-numberValues [] = json.no-value
-numberValues (n ∷ ns) = json.value (number-written n .0) (numberValues ns)
-
-numbers-written : (ns : List ℕ) → valuesText (numberValues ns) ≡ separated (map number ns)
-unfolding numberValues valuesText moreValues
-numbers-written [] = refl
-numbers-written (n ∷ []) = rw (append-nil, number-written n .1)
-numbers-written (n ∷ m ∷ ns) = rw (append-assoc (number n), ← numbers-written (m ∷ ns), number-written n .1)
-
-abbrev IsNamed : Value → Type 0
-IsNamed (numeric n) = Unit {0}
-IsNamed (named n) = IsName n
-IsNamed (word w) = Unit {0}
-IsNamed (listed ns) = Unit {0}
-
-value-written : (v : Value) → All Plain (wordIn v) → IsNamed v → Written (valueText v)
-unfolding valueText jsonText
-value-written (numeric n) plain is = number-written n
-value-written (named n) plain is = name-written n is
-value-written (word w) plain is = (json.string (plain-string plain), refl)
-value-written (listed ns) plain is = (json.array (numberValues ns), rw (numbers-written ns))
-
--- so parts are members
-abbrev NamedPart : Part → Type 0
-NamedPart p = IsNamed (p .value)
-
-part-written : (p : Part) → PlainPart p → NamedPart p → Written (valueText (p .value))
-part-written p plain is = value-written (p .value) (plain .word) is
-
-members : (ps : List Part) → Each PlainPart ps → Each NamedPart ps → Members
-members [] plain are = json.no-member
-members (p ∷ ps) plain are = json.member (json.string-of (plain-chars (plain .0 .label))) (part-written p (plain .0) (are .0) .0) (members ps (plain .1) (are .1))
-
-members-named : (ps : List Part) (plain : Each PlainPart ps) (are : Each NamedPart ps) → memberNames (members ps plain are) ≡ map (λ p. p .label) ps
-unfolding members
-members-named [] plain are = refl
-members-named (p ∷ ps) plain are = rw (members-named ps (plain .1) (are .1))
-
-pub part-text : (p : Part) → partText p ≡ quoted (p .label) ++ (0x3A ∷ valueText (p .value))
-unfolding partText
-part-text p = append-assoc (quoted (p .label)) (ascii ":") (valueText (p .value))
-
-members-written : (ps : List Part) (plain : Each PlainPart ps) (are : Each NamedPart ps) → membersText (members ps plain are) ≡ separated (map partText ps)
-unfolding members membersText moreMembers quoted
-members-written [] plain are = refl
-members-written (p ∷ []) plain are = rw (append-nil, part-written p (plain .0) (are .0) .1, part-text p)
-members-written (p ∷ q ∷ ps) plain are =
-    rw (append-assoc (partText p), part-text p, ← members-written (q ∷ ps) (plain .1) (are .1), part-written p (plain .0) (are .0) .1)
-
-line-object : (l : Line) (n : Option (List ℕ)) → IsName n → (ms : Members) × (line l n ≡ jsonText (json.object ms) ++ (0x0A ∷ [])) × (memberNames ms ≡ lineNames)
-unfolding line objectText jsonText parts
+line-object : (l : Line) (n : Option (List ℕ)) → IsName n → IsObject l n (line l n)
+unfolding line objectText jsonText parts valueText numbersIn
 line-object l n is =
     let are : Each NamedPart (parts l n) = search in
     let plain = line-plain l n in
-    (members (parts l n) plain are, rw (members-written (parts l n) plain are), members-named (parts l n) plain are)
+    let ms = members (parts l n) plain are in
+    let text = members-written (parts l n) plain are in
+    record {
+      members = ms;
+      is-text = rw text;
+      are = members-are (parts l n) plain are;
+      numbers = sym (numbers-found (object ms)) ∙ rw text (object-numbers (parts l n) plain);
+    }
 
 -- names with different codes differ
 abbrev code : List ℕ → ℕ
@@ -165,8 +56,28 @@ new a (b ∷ more) test =
     let tests = and-eq-true-iff _ (isNew a more) .0 test in
     (λ same. eqb-false (code a) (code b) (not-true _ (tests .0)) (ap code same), new a more (tests .1))
 
-names-distinct : Distinct lineNames
-names-distinct = search new depth 20
+names-distinct : (l : Line) (n : Option (List ℕ)) → Distinct (map (λ m. m .name) (lineMembers l n))
+names-distinct l n = search new depth 20
+
+-- a name in a dump is of bytes
+part-bytes : (s : List ℕ) (at size : ℕ) → AreBytes s → AreBytes (take size (drop at s))
+part-bytes s at size bytes i = by (decLt i size)
+  where
+    by : Dec (i < size) → getD (take size (drop at s)) i 0 < 256
+    by (yes within) = rw (getD-take size (drop at s) i 0 within, getD-drop at s i 0) (bytes (at + i))
+    by (no past) = rw (List·getD-eq-default (take size (drop at s)) 0 {n = i} (rw length-take (omega arith))) (omega arith)
+
+name-bytes : (s : List ℕ) (n : Name) → AreBytes s → IsName (nameBytes s n)
+unfolding nameBytes
+name-bytes s Nameless bytes = tt
+name-bytes s (Named at size) bytes = part-bytes s at size bytes
 
 pub json-lines : JsonLines
-json-lines = record { line-object = line-object; names-distinct = names-distinct; numbers-found = numbers-found }
+unfolding lineOf
+json-lines = record {
+  line-object = line-object;
+  listed-object = λ s h r position bytes. let event = eventAt s h position in line-object (fields r position event) (nameBytes s (event .name)) (name-bytes s (event .name) bytes);
+  names-distinct = names-distinct;
+  numbers-found = numbers-found;
+  numbers-found-first = numbers-found-first;
+}

@@ -22,7 +22,7 @@ use Rattle.words.specs.Each.{Each}
 use Rattle.demands.specs.Json.{null}
 use Rattle.demands.specs.JsonNumbers.{jsonNumbers, listedNumbers, numbersOf, numbersRead, numbersTo}
 use Rattle.demands.proofs.Json.{Has, Passed, braces, brackets, byte-passed, colon, comma, empty, followed, joined, literal-has, number-has, quotes, string-has, whole}
-use Rattle.demands.proofs.JsonLines.{digits-number, part-text, plain-string}
+use Rattle.demands.proofs.JsonTexts.{digits-number, part-text, plain-string}
 use Rattle.demands.proofs.Plain.{All, Plain, PlainPart, by-escape, by-hex, digits-plain, line-plain, wordIn}
 
 abbrev bare : List ℕ → List (List ℕ)
@@ -88,6 +88,9 @@ object-read : (ps : List Part) → Each PlainPart ps → Has (objectText ps) (ba
 unfolding objectText
 object-read ps plain = braces (parts-read ps plain)
 
+pub object-numbers : (ps : List Part) → Each PlainPart ps → jsonNumbers (objectText ps) ≡ map digits (keep isBare (numbersIn ps))
+object-numbers ps plain = whole (object-read ps plain)
+
 line-read : (l : Line) (n : Option (List ℕ)) → Has (line l n) (bare (numbersOf l))
 unfolding line parts numbersIn
 line-read l n = rw (append-nil (bare (numbersOf l))) at (joined 0x0A (refl, refl, refl) (object-read (parts l n) (line-plain l n)) empty)
@@ -112,6 +115,9 @@ line-numbers s h r position = whole (line-found s h r position)
 -- what a printer of one line or of one number writes
 pub one-line-numbers : (l : Line) (named : Option (List ℕ)) → jsonNumbers (line l named) ≡ map digits (keep isBare (numbersOf l))
 one-line-numbers l n = whole (line-read l n)
+
+pub one-name : (n : Option (List ℕ)) → jsonNumbers (name n) ≡ []
+one-name n = whole (name-read n)
 
 pub one-number : (n : ℕ) → jsonNumbers (number n) ≡ map digits (keep isBare (n ∷ []))
 one-number n = whole (number-read n)

@@ -7,6 +7,7 @@ pub mod History
 pub mod Json
 pub mod JsonLines
 pub mod JsonNumbers
+mod JsonTexts
 pub mod Layouts
 pub mod Masks
 pub mod Names

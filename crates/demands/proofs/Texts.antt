@@ -4,7 +4,7 @@ use Rattle.text.proofs.Filled.{line-some, name-some, number-some}
 use Rattle.text.proofs.Output.{is-put, not-put, zero-said}
 use Rattle.text.proofs.ReadBack.{name-back, names-differ, number-back, numbers-differ}
 use Rattle.demands.specs.Texts.{Texts}
-use Rattle.demands.proofs.JsonLines.{digits-integer}
+use Rattle.demands.proofs.JsonTexts.{digits-integer}
 
 pub texts : Texts
 texts = record {

@@ -112,7 +112,8 @@ pub record SecondDemand : Type 0 where
   pub one-line : (s : List ℕ) (h : Header) (r : Reading) (position : ℕ)
       → (body : List ℕ) × (lineAt s h r position ≡ body ++ (0x0A ∷ [])) × Each (λ c. c ≡ 0x0A → ⊥) body
   pub empty-ring : (s : List ℕ) (h : Header) (r : Reading) → eventCount s h ≡ 0 → listingText s h r ≡ []
-  -- "JSON is RFC 8259.": each line is an object by its grammar, and a text has those numbers that `jsonNumbers` finds
+  -- "JSON is RFC 8259.": each line without its 0A is an object by its grammar, with the members of document 01, and the numbers of a text are those that
+  -- `jsonNumbers` finds
   pub json : JsonLines
   -- what is printed reads back
   pub texts : Texts

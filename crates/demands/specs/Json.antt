@@ -1,5 +1,6 @@
 -- RFC 8259: the grammar of a JSON text, production by production.
--- Two things are left out that no line has, so that whatever is a text here is one there: white space, and characters above 7F. So the bytes of a text are its characters.
+-- Two things are left out that stand in no line before its last 0A, so that whatever is a text here is one there: white space, and characters above 7F.
+-- So the bytes of a text are its characters.
 use Prim.Native.Nat.{ℕ, _≤_}
 use mathlib.Core.List.{List, [], _∷_, _++_}
 use mathlib.Core.Logic.{_⊎_}
@@ -143,10 +144,14 @@ unfoldable mutual
 abbrev pub inside : {text : List ℕ} → Str text → List ℕ
 inside (string-of {inside} all) = inside
 
--- the names of an object's members, in their order
-abbrev pub memberNames : Members → List (List ℕ)
-memberNames no-member = []
-memberNames (member name v more) = inside name ∷ memberNames more
+-- an object's members, in their order: the name's characters and the value's text
+pub record Member : Type 0 where
+  pub name : List ℕ
+  pub text : List ℕ
+
+abbrev pub membersOf : Members → List Member
+membersOf no-member = []
+membersOf (member name v more) = record { name = inside name; text = jsonText v } ∷ membersOf more
 
 -- the numbers in a value, each as it is written, in their order
 unfoldable mutual

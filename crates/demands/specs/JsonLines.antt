@@ -1,31 +1,63 @@
--- Each line is a JSON text of RFC 8259, and what `jsonNumbers` finds in such a text are its numbers.
+-- Each line without its 0A is a JSON text of RFC 8259, and what `jsonNumbers` finds in such a text are its numbers.
 use Prim.Native.Nat.{ℕ}
-use mathlib.Core.List.{List, [], _∷_, _++_}
+use Prim.Native.String.{String}
+use mathlib.Core.List.{List, [], _∷_, _++_, map}
 use mathlib.Core.Option.{Option}
 use mathlib.Core.Path.{_≡_}
+use Rattle.events.specs.Events.{eventAt}
+use Rattle.events.specs.Listing.{fields, lineAt}
+use Rattle.events.specs.declared.Reading.{Reading}
 use Rattle.text.specs.Ascii.{ascii}
-use Rattle.text.specs.Lines.{line}
+use Rattle.text.specs.Lines.{context, line, separated}
+use Rattle.text.specs.Names.{name}
+use Rattle.text.specs.Numbers.{digits, isBare, number, quoted}
 use Rattle.text.specs.ReadBack.{IsName}
 use Rattle.text.specs.declared.Line.{Line}
+use Rattle.trace.specs.Names.{nameBytes}
+use Rattle.trace.specs.Ring.{keep}
+use Rattle.trace.specs.declared.Header.{Header}
 use Rattle.words.specs.Each.{Each}
-use Rattle.demands.specs.Json.{Members, Value, jsonText, memberNames, numbersInValue, object}
-use Rattle.demands.specs.JsonNumbers.{jsonNumbers}
+use Rattle.words.specs.Words.{AreBytes}
+use Rattle.demands.specs.Json.{Member, Members, Value, jsonText, membersOf, numbersInValue, object}
+use Rattle.demands.specs.JsonNumbers.{jsonNumbers, numbersOf}
 
--- the names of a line's members, in the order of document 01
-abbrev pub lineNames : List (List ℕ)
-lineNames =
-    ascii "key" ∷ ascii "ticks" ∷ ascii "us" ∷ ascii "id" ∷ ascii "ptr" ∷ ascii "by" ∷ ascii "name" ∷ ascii "field" ∷ ascii "info" ∷ []
+-- the members of a line, in the order of document 01
+abbrev pub is : String → List ℕ → Member
+is name text = record { name = ascii name; text = text }
+
+abbrev pub lineMembers : Line → Option (List ℕ) → List Member
+lineMembers l n =
+    is "key" (number (l .key))
+    ∷ is "ticks" (number (l .ticks))
+    ∷ is "us" (number (l .us))
+    ∷ is "id" (number (l .id))
+    ∷ is "ptr" (number (l .ptr))
+    ∷ is "by" (quoted (context (l .by)))
+    ∷ is "name" (name n)
+    ∷ is "field" (number (l .field))
+    ∷ is "info" (ascii "[" ++ separated (number (l .info .first) ∷ number (l .info .second) ∷ number (l .info .third) ∷ number (l .info .fourth) ∷ []) ++ ascii "]")
+    ∷ []
 
 -- no two of a list are the same
 abbrev pub Distinct : List (List ℕ) → Type 0
 Distinct [] = Unit {0}
 Distinct (a ∷ more) = Each (λ b. a ≡ b → ⊥) more × Distinct more
 
+-- a text is the object with a line's members, and byte 0A; its numbers are the digits of the line's bare ones
+pub record IsObject (l : Line) (n : Option (List ℕ)) (text : List ℕ) : Type 0 where
+  pub members : Members
+  pub is-text : text ≡ jsonText (object members) ++ (0x0A ∷ [])
+  pub are : membersOf members ≡ lineMembers l n
+  pub numbers : numbersInValue (object members) ≡ map digits (keep isBare (numbersOf l))
+
 pub record JsonLines : Type 0 where
-  -- a line is an object and byte 0A, the object's members in the order of document 01
-  pub line-object : (l : Line) (name : Option (List ℕ)) → IsName name
-      → (members : Members) × (line l name ≡ jsonText (object members) ++ (0x0A ∷ [])) × (memberNames members ≡ lineNames)
-  -- their names are distinct
-  pub names-distinct : Distinct lineNames
-  -- the numbers of any JSON text are those that `jsonNumbers` finds in it
+  pub line-object : (l : Line) (n : Option (List ℕ)) → IsName n → IsObject l n (line l n)
+  -- so is every line of a dump, which is of bytes
+  pub listed-object : (s : List ℕ) (h : Header) (r : Reading) (position : ℕ) → AreBytes s
+      → let event = eventAt s h position in
+      IsObject (fields r position event) (nameBytes s (event .name)) (lineAt s h r position)
+  -- no two members have one name
+  pub names-distinct : (l : Line) (n : Option (List ℕ)) → Distinct (map (λ m. m .name) (lineMembers l n))
+  -- the numbers of any text of the grammar are those that `jsonNumbers` finds in it, also where 0A and more follow
   pub numbers-found : (value : Value) → jsonNumbers (jsonText value) ≡ numbersInValue value
+  pub numbers-found-first : (value : Value) (more : List ℕ) → jsonNumbers (jsonText value ++ (0x0A ∷ more)) ≡ numbersInValue value ++ jsonNumbers more

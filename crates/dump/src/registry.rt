@@ -14,7 +14,7 @@ ghost use Prim.Native.Nat.{ℕ, _≤_, _<_, _^_};
 ghost use lib.Dec.{eqb};
 ghost use Rattle.rows.specs.Lowest.{lowest};
 ghost use Rattle.trace.specs.Layout.{entryCount};
-ghost use Rattle.trace.specs.Registry.{isInUse, isAllowedType, pointerAt, typeAt, isWantedAt, isWanted};
+ghost use Rattle.trace.specs.Registry.{isInUse, isAllowedType, isThreadAt, pointerAt, typeAt, isWantedAt, isWanted};
 
 fn in_use(dump: &[u8], at: usize) -> bool
     ensures { λ r. ⌜ r ≡ isInUse (now (dump .entry)) at ⌝ }
@@ -45,7 +45,7 @@ fn is_bad_type(dump: &[u8], at: usize) -> bool
 
 // Whether the entry at a place is a thread's, in use.
 pub fn is_thread(dump: &[u8], at: usize) -> bool
-    ensures { λ r. ⌜ r ≡ (isInUse (now (dump .entry)) at && eqb (typeAt (now (dump .entry)) at) 1) ⌝ }
+    ensures { λ r. ⌜ r ≡ isThreadAt (now (dump .entry)) at ⌝ }
 {
     let used = in_use(dump, at);
     both(used, words::byte(dump, at, 1) == 1)

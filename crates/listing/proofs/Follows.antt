@@ -13,7 +13,7 @@ use lib.ListN.{getD}
 use Rattle.rows.proofs.Lowest.{lowest-at, lowest-none}
 use Rattle.trace.specs.Layout.{entryAt, entryCount, entrySize, headerSize}
 use Rattle.trace.specs.Names.{threadEntry}
-use Rattle.trace.specs.Registry.{isInUse, isWanted, isWantedAt, pointerAt, typeAt}
+use Rattle.trace.specs.Registry.{isThreadAt, isWanted, isWantedAt, pointerAt}
 use Rattle.trace.specs.declared.Header.{Header}
 use Rattle.trace.specs.declared.Wanted.the-variants.{Thread}
 use Rattle.words.specs.declared.Order.{Order}
@@ -24,7 +24,7 @@ pub record Reached (s : List ℕ) (o : Order) (size entries pointer i : ℕ) : T
   pub missed : (k : ℕ) → k < i → k < entries → isWantedAt (Thread pointer) o s (headerSize + k * size) ≡ false
   pub placed : i < entries
       → let at = headerSize + i * size in
-      ((isInUse s at && eqb (typeAt s at) 1) && eqb (placeOf (pointerAt o s at)) (placeOf pointer)) ≡ true
+      (isThreadAt s at && eqb (placeOf (pointerAt o s at)) (placeOf pointer)) ≡ true
 
 module _ (s : List ℕ) (h : Header) (pointer : ℕ) where
   abbrev Comes : ℕ → Type 0

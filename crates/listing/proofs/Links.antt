@@ -1,6 +1,6 @@
 -- One entry more is linked by two stores where it is a thread, and by none where it is not.
 use Prim.Native.Nat.{ℕ, suc, _+_, _≤_, _<_}
-use mathlib.Core.Bool.{Bool, true, false, _&&_, true≢false}
+use mathlib.Core.Bool.{Bool, true, false, true≢false}
 use mathlib.Core.List.{List}
 use mathlib.Core.Path.{_≡_, refl, sym, _∙_}
 use native.Mathlib.Decide.{ℕ-discrete}
@@ -10,13 +10,13 @@ use lib.Dec.{eqb}
 use lib.ListN.{getD, replicate, set, getD-replicate, length-replicate, length-set}
 use lib.Seq.{getD-set-same, getD-set-other}
 use Rattle.trace.specs.Layout.{entryAt, entryCount}
-use Rattle.trace.specs.Registry.{isInUse, pointerAt, typeAt}
+use Rattle.trace.specs.Registry.{isThreadAt, pointerAt}
 use Rattle.trace.specs.declared.Header.{Header}
 use Rattle.listing.specs.Index.{Leads, Linked, hasPlace, placeOf}
 
 -- whether an entry is a thread's, in use
 abbrev pub isThread : List ℕ → Header → ℕ → Bool
-isThread s h i = isInUse s (entryAt h i) && eqb (typeAt s (entryAt h i)) 1
+isThread s h i = isThreadAt s (entryAt h i)
 
 module _ (s : List ℕ) (h : Header) where
   -- before any entry is linked, all links lead past the entries

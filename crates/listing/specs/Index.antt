@@ -6,17 +6,17 @@ use mathlib.Core.Path.{_≡_}
 use lib.Dec.{eqb}
 use lib.ListN.{getD, length}
 use Rattle.trace.specs.Layout.{entryAt, entryCount}
-use Rattle.trace.specs.Registry.{isInUse, pointerAt, typeAt}
+use Rattle.trace.specs.Registry.{isThreadAt, pointerAt}
 use Rattle.trace.specs.declared.Header.{Header}
 
 -- the place of a pointer: the upper bits of a product, which all bits of the pointer move
 unfoldable pub placeOf : ℕ → ℕ
 placeOf pointer = pointer * 2654435769 / 2097152 % 2048
 
--- an entry in use, of type 1, whose pointer has the place
+-- a thread's entry, in use, whose pointer has the place
 abbrev pub hasPlace : List ℕ → Header → ℕ → ℕ → Bool
 hasPlace s h place i =
-    (isInUse s (entryAt h i) && eqb (typeAt s (entryAt h i)) 1) && eqb (placeOf (pointerAt (h .order) s (entryAt h i))) place
+    isThreadAt s (entryAt h i) && eqb (placeOf (pointerAt (h .order) s (entryAt h i))) place
 
 -- a link leads from one entry on to the lowest that has the place, or past all entries
 pub record Leads (s : List ℕ) (h : Header) (place from to : ℕ) : Type 0 where

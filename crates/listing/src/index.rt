@@ -43,7 +43,7 @@ fn link(dump: &[u8], header: Header, entry: usize, links: &mut [u16; 5322])
     }
 }
 
-// The upper bits of a product: pointers at a regular distance get places of their own, whatever bits they share.
+// Bits 21 to 31 of a product, which spreads pointers at most regular distances, whatever bits they share.
 fn place_of(pointer: u32) -> usize
     ensures { λ r. ⌜ (r ≡ placeOf pointer) × (r < 2048) ⌝ }
 {
