@@ -27,7 +27,7 @@ use Rattle.writing.specs.declared.Outcome.the-variants.{Done}
 use Rattle.demands.specs.Demands.{ThirdDemandAt}
 use Rattle.demands.specs.Fakes.{CountsAs, Fakes, ListsNothing, RefusesEverything, firstOnly, untouched}
 use Rattle.demands.specs.History.{Call, Write, acceptedWrites, after, given, write}
-use Rattle.demands.specs.WholeCase.{middleLine, newestLine, oldestLine, reading, threeLines, wholeDump, wholeHeader}
+use Rattle.demands.specs.WholeCase.{middleLine, newestLine, oldestLine, reading, threeLines, threeLong, wholeDump, wholeHeader}
 use Rattle.demands.proofs.Refusals.{first-given}
 use Rattle.demands.proofs.Typed.{given-words}
 use Rattle.demands.proofs.WholeCase.{whole-case}
@@ -83,7 +83,7 @@ record Computed : Type 0 where
   current-differs : (getD (dump 48 unused unused) 32 0 ≡ 48) × (getD (dump 80 used unused) 32 0 ≡ 80)
   no-event : checkOf (dump 48 unused unused) ≡ Sound (headerOf (dump 48 unused unused)) 0
   second-missed : checkOf (dump 48 used unused) ≡ Refused (record { number = 12; place = 1 })
-  three-lines : length threeLines ≡ 377
+  three-lines : length threeLines ≡ threeLong
 
 computed : Computed
 unfolding open-writing given one untouched firstOnly twoSlots blank headerAt dump unused used threeLines oldestLine middleLine newestLine
@@ -137,11 +137,11 @@ listing-none fake =
     let d = wholeDump Little in
     let case = whole-case Little in
     let header : headerOf d ≡ wholeHeader Little = sym (check-header d (wholeHeader Little) 3 (case .check)) in
-    let room : firstBroken (listingRows d (headerOf d) reading (length {A = ℕ} (replicate 377 0))) ≡ Passed = rw (header, length-replicate) (case .room) in
-    let said : Written 0 ≡ listedBy (firstBroken (listingRows d (wholeHeader Little) reading 377)) (length (listingText d (wholeHeader Little) reading)) =
-    rw (header, length-replicate) at (fake d reading (replicate 377 0) room .answered) in
-    let clash : Written 0 ≡ Written 377 = said ∙ rw (case .room, case .listing, computed .three-lines) in
-    let none : _≡_ {A = ℕ} 0 377 = cc clash in
+    let room : firstBroken (listingRows d (headerOf d) reading (length {A = ℕ} (replicate threeLong 0))) ≡ Passed = rw (header, length-replicate) (case .room) in
+    let said : Written 0 ≡ listedBy (firstBroken (listingRows d (wholeHeader Little) reading threeLong)) (length (listingText d (wholeHeader Little) reading)) =
+    rw (header, length-replicate) at (fake d reading (replicate threeLong 0) room .answered) in
+    let clash : Written 0 ≡ Written threeLong = said ∙ rw (case .room, case .listing, computed .three-lines) in
+    let none : _≡_ {A = ℕ} 0 threeLong = cc clash in
     omega arith
 
 untouched-falls : ((slot : Slot) (s : List ℕ) → left (recording slot s) s ≡ left (untouched slot s) s) → ⊥
