@@ -15,8 +15,8 @@
 /* One byte more than a dump may have is room enough: a longer file is refused all the same. */
 #define DUMP_ROOM 65537
 
-/* No line is longer, so that any listing fits. */
-#define LINE_ROOM 700
+/* With six bytes for each byte of the longest name, and for 65 more, any listing fits, and none is measured first. */
+#define LINE_ROOM (6 * (64 + 65))
 
 static int fail(const char *what, const char *why)
 {
