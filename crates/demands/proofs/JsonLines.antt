@@ -3,7 +3,7 @@ use Prim.Native.Nat.{ℕ, _+_, _*_, _<_}
 use mathlib.Core.Bool.{Bool, true, and-eq-true-iff, not, _&&_}
 use mathlib.Core.List.{List, [], _∷_, map}
 use mathlib.Core.Option.{Option}
-use mathlib.Core.Path.{_≡_, sym, ap, _∙_}
+use mathlib.Core.Path.{_≡_, refl, sym, ap, _∙_}
 use native.Mathlib.Decide.{decLt}
 use native.Mathlib.Omega.{arith}
 use lib.Dec.{eqb}
@@ -12,8 +12,11 @@ use lib.Seq.{getD-drop, getD-take}
 use borrow.Author.Tests.{eqb-false, not-true}
 use Rattle.events.specs.Events.{eventAt}
 use Rattle.events.specs.Listing.{fields, lineOf}
-use Rattle.text.specs.Lines.{line, numbersIn, objectText, parts, valueText}
+use Rattle.text.specs.Lines.{context, line, numbersIn, objectText, parts, valueText}
+use Rattle.text.specs.Numbers.{quoted}
 use Rattle.text.specs.ReadBack.{IsName}
+use Rattle.text.specs.declared.Context.{Context}
+use Rattle.text.specs.declared.Context.the-variants.{Init, Isr, Thread}
 use Rattle.text.specs.declared.Line.{Line}
 use Rattle.trace.specs.Names.{nameBytes}
 use Rattle.trace.specs.declared.Name.{Name}
@@ -21,11 +24,17 @@ use Rattle.trace.specs.declared.Name.the-variants.{Nameless, Named}
 use Rattle.words.specs.Each.{Each}
 use Rattle.words.specs.Words.{AreBytes}
 use Rattle.demands.specs.Json.{jsonText, object}
-use Rattle.demands.specs.JsonLines.{Distinct, IsObject, JsonLines, lineMembers}
+use Rattle.demands.specs.JsonLines.{Distinct, IsObject, JsonLines, byText, lineMembers}
 use Rattle.demands.proofs.Json.{numbers-found, numbers-found-first}
 use Rattle.demands.proofs.JsonNumbers.{object-numbers}
 use Rattle.demands.proofs.JsonTexts.{NamedPart, members, members-are, members-written}
 use Rattle.demands.proofs.Plain.{line-plain}
+
+context-text : (by : Context) → quoted (context by) ≡ byText by
+unfolding quoted context
+context-text Init = refl
+context-text Isr = refl
+context-text Thread = refl
 
 line-object : (l : Line) (n : Option (List ℕ)) → IsName n → IsObject l n (line l n)
 unfolding line objectText jsonText parts valueText numbersIn
@@ -37,7 +46,7 @@ line-object l n is =
     record {
       members = ms;
       is-text = rw text;
-      are = members-are (parts l n) plain are;
+      are = rw (← context-text (l .by)) (members-are (parts l n) plain are);
       numbers = sym (numbers-found (object ms)) ∙ rw text (object-numbers (parts l n) plain);
     }
 

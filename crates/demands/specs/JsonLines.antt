@@ -8,10 +8,12 @@ use Rattle.events.specs.Events.{eventAt}
 use Rattle.events.specs.Listing.{fields, lineAt}
 use Rattle.events.specs.declared.Reading.{Reading}
 use Rattle.text.specs.Ascii.{ascii}
-use Rattle.text.specs.Lines.{context, line, separated}
+use Rattle.text.specs.Lines.{line, separated}
 use Rattle.text.specs.Names.{name}
-use Rattle.text.specs.Numbers.{digits, isBare, number, quoted}
+use Rattle.text.specs.Numbers.{digits, isBare, number}
 use Rattle.text.specs.ReadBack.{IsName}
+use Rattle.text.specs.declared.Context.{Context}
+use Rattle.text.specs.declared.Context.the-variants.{Init, Isr, Thread}
 use Rattle.text.specs.declared.Line.{Line}
 use Rattle.trace.specs.Names.{nameBytes}
 use Rattle.trace.specs.Ring.{keep}
@@ -20,6 +22,12 @@ use Rattle.words.specs.Each.{Each}
 use Rattle.words.specs.Words.{AreBytes}
 use Rattle.demands.specs.Json.{Member, Members, Value, jsonText, membersOf, numbersInValue, object}
 use Rattle.demands.specs.JsonNumbers.{jsonNumbers, numbersOf}
+
+-- the context's words
+abbrev pub byText : Context → List ℕ
+byText Init = ascii "\"init\""
+byText Isr = ascii "\"isr\""
+byText Thread = ascii "\"thread\""
 
 -- the members of a line, in the order of document 01
 abbrev pub is : String → List ℕ → Member
@@ -32,7 +40,7 @@ lineMembers l n =
     ∷ is "us" (number (l .us))
     ∷ is "id" (number (l .id))
     ∷ is "ptr" (number (l .ptr))
-    ∷ is "by" (quoted (context (l .by)))
+    ∷ is "by" (byText (l .by))
     ∷ is "name" (name n)
     ∷ is "field" (number (l .field))
     ∷ is "info" (ascii "[" ++ separated (number (l .info .first) ∷ number (l .info .second) ∷ number (l .info .third) ∷ number (l .info .fourth) ∷ []) ++ ascii "]")

@@ -17,8 +17,14 @@ ghost use Rattle.trace.specs.Names.{threadEntry};
 ghost use Rattle.walk.specs.Walks.{eventHere};
 ghost use Rattle.listing.specs.Index.{Linked, placeOf};
 
+// No dump has room for more entries. The first links stand behind theirs.
+const FIRSTS: usize = 3274;
+
+// A link for each entry, and the first of each of 2,048 places.
+pub(crate) const LINKS: usize = 5322;
+
 // Links the threads, from the last entry to the first, so that each link leads to the lowest behind it.
-pub(crate) fn link_all(dump: &[u8], header: Header, links: &mut [u16; 5322])
+pub(crate) fn link_all(dump: &[u8], header: Header, links: &mut [u16; LINKS])
     requires { ⌜ (entryCount header ≤ 3274) × (now links ≡ replicate 5322 65535) ⌝ }
     ensures { λ r. ⌜ Linked (now (dump .entry)) header 0 (now (links .exit)) ⌝ }
 {
@@ -30,7 +36,7 @@ pub(crate) fn link_all(dump: &[u8], header: Header, links: &mut [u16; 5322])
 }
 
 // Links one entry more.
-fn link(dump: &[u8], header: Header, entry: usize, links: &mut [u16; 5322])
+fn link(dump: &[u8], header: Header, entry: usize, links: &mut [u16; LINKS])
     requires { ⌜ (entry < entryCount header) × Linked (now dump) header (suc entry) (now links) ⌝ }
     ensures { λ r. ⌜ Linked (now (dump .entry)) header entry (now (links .exit)) ⌝ }
 {
@@ -38,8 +44,8 @@ fn link(dump: &[u8], header: Header, entry: usize, links: &mut [u16; 5322])
     if is_thread(dump, at) {
         let order = header.order;
         let place = place_of(words::word(dump, at + 4, order));
-        links[entry] = links[3274 + place];
-        links[3274 + place] = entry as u16;
+        links[entry] = links[FIRSTS + place];
+        links[FIRSTS + place] = entry as u16;
     }
 }
 
@@ -51,7 +57,7 @@ fn place_of(pointer: u32) -> usize
 }
 
 // The lowest thread with a pointer, or the number of entries where there is none.
-fn linked_entry(dump: &[u8], header: Header, pointer: u32, links: &[u16; 5322]) -> usize
+fn linked_entry(dump: &[u8], header: Header, pointer: u32, links: &[u16; LINKS]) -> usize
     requires { ⌜ Linked (now dump) header 0 (now links) ⌝ }
     ensures { λ r. ⌜ r ≡ threadEntry (now (dump .entry)) header pointer ⌝ }
 {
@@ -59,7 +65,7 @@ fn linked_entry(dump: &[u8], header: Header, pointer: u32, links: &[u16; 5322]) 
     let entries = geometry.entries;
     let size = geometry.entry_size;
     let order = header.order;
-    let mut i = links[3274 + place_of(pointer)] as usize;
+    let mut i = links[FIRSTS + place_of(pointer)] as usize;
     loop {
         if entries <= i {
             break entries;
@@ -72,7 +78,7 @@ fn linked_entry(dump: &[u8], header: Header, pointer: u32, links: &[u16; 5322]) 
 }
 
 // The event where a walk stands.
-pub(crate) fn event_here(dump: &[u8], header: Header, walk: Walk, links: &[u16; 5322]) -> Event
+pub(crate) fn event_here(dump: &[u8], header: Header, walk: Walk, links: &[u16; LINKS]) -> Event
     requires { ⌜ Linked (now dump) header 0 (now links) ⌝ }
     ensures { λ r. ⌜ r ≡ eventHere (now (dump .entry)) header walk ⌝ }
 {
