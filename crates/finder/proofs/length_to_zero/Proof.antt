@@ -37,7 +37,7 @@ loop-again c =
     let turn = c .before .before .before in
     let found = turn .before in
     let a = found .before .before .args in
-    (omega arith, below-more _ _ (turn .loop .inv .1) (no-zero (a .dump .now) (found .part .result .now) (a .at) (a .size) (found .part .ensures .bytes) (turn .loop .i) (omega arith) (c .if2 .left)))
+    (omega arith, below-more _ _ (turn .loop .inv .1) (no-zero (a .dump .now) (found .part .result .now) (a .at) (a .size) (found .part .ensures .bytes) (turn .loop .i) (omega arith) (λ zero. omega (arith, c .if2 .left))))
 
 returns : tie.Need-returns Inv-loop μ-loop
 returns c =
@@ -51,7 +51,7 @@ returns-2 c =
     let turn = c .before .before .before in
     let found = turn .before in
     let a = found .before .before .args in
-    ends-at-zero (a .dump .now) (found .part .result .now) (a .at) (a .size) (found .part .ensures .bytes) (turn .loop .i) (turn .loop .inv .1) (omega arith) (c .if2 .taken)
+    ends-at-zero (a .dump .now) (found .part .result .now) (a .at) (a .size) (found .part .ensures .bytes) (turn .loop .i) (turn .loop .inv .1) (omega arith) (omega (arith, c .if2 .taken))
 
 pub length-to-zero-spec : {M : Type 1} → statement M
 length-to-zero-spec =
