@@ -7,7 +7,8 @@ use mathlib.Core.Path.{_≡_, refl, _∙_}
 use native.Mathlib.Omega.{arith}
 use borrow.Author.Tests.{le-leb, ne-eqb}
 use Rattle.demands.specs.Json as json
-use Rattle.demands.specs.Json.{Char, Chars, Digits, Exp, Frac, Int, IsDigit, IsHexDigit, Literal, Members, Number, Sign, Str, Value, Values, jsonText, membersText, moreMembers, moreValues, numbersInMembers, numbersInValue, numbersInValues, valuesText}
+use Rattle.demands.specs.Json.{Char, Chars, Digits, Exp, Frac, Int, IsDigit, IsHexDigit, Literal, Members, Number, Sign, Str, Value, Values, jsonText, membersText, moreMembers, moreValues, valuesText}
+use Rattle.demands.specs.JsonContents.{numbersInMembers, numbersInValue, numbersInValues}
 use Rattle.demands.specs.JsonNumbers.{isNumberByte, isNumberStart, isQuote, jsonNumbers, number as within, numbersRead, outside, string}
 use Rattle.demands.proofs.Plain.{All, both, byte, no-byte}
 

@@ -16,7 +16,8 @@ use Rattle.text.specs.ReadBack.{IsName, decimal, decimalAfter}
 use Rattle.words.specs.Each.{Each}
 use Rattle.words.specs.Words.{AreBytes}
 use Rattle.demands.specs.Json as json
-use Rattle.demands.specs.Json.{Char, Chars, Digits, Int, IsHexDigit, Member, Members, Number, Str, Values, jsonText, membersOf, membersText, moreMembers, moreValues, valuesText}
+use Rattle.demands.specs.Json.{Char, Chars, Digits, Int, IsHexDigit, Members, Number, Str, Values, jsonText, membersText, moreMembers, moreValues, valuesText}
+use Rattle.demands.specs.JsonContents.{Member, membersOf}
 use Rattle.demands.proofs.Plain.{All, Plain, PlainPart, by-escape, by-hex, byte, digits-plain, no-byte, wordIn}
 
 -- plain bytes are characters, and so are the escapes of bytes

@@ -137,35 +137,3 @@ unfoldable mutual
   pub moreValues : Values → List ℕ
   moreValues no-value = []
   moreValues (value v more) = 0x2C ∷ jsonText v ++ moreValues more
-
--- WHAT A TEXT HAS
-
--- a string's characters as they are written, without the quotation marks
-abbrev pub inside : {text : List ℕ} → Str text → List ℕ
-inside (string-of {inside} all) = inside
-
--- an object's members, in their order: the name's characters and the value's text
-pub record Member : Type 0 where
-  pub name : List ℕ
-  pub text : List ℕ
-
-abbrev pub membersOf : Members → List Member
-membersOf no-member = []
-membersOf (member name v more) = record { name = inside name; text = jsonText v } ∷ membersOf more
-
--- the numbers in a value, each as it is written, in their order
-unfoldable mutual
-  pub numbersInValue : Value → List (List ℕ)
-  numbersInValue (literal l) = []
-  numbersInValue (object members) = numbersInMembers members
-  numbersInValue (array values) = numbersInValues values
-  numbersInValue (number {text} n) = text ∷ []
-  numbersInValue (string s) = []
-
-  pub numbersInMembers : Members → List (List ℕ)
-  numbersInMembers no-member = []
-  numbersInMembers (member name v more) = numbersInValue v ++ numbersInMembers more
-
-  pub numbersInValues : Values → List (List ℕ)
-  numbersInValues no-value = []
-  numbersInValues (value v more) = numbersInValue v ++ numbersInValues more

@@ -20,7 +20,8 @@ use Rattle.trace.specs.Ring.{keep}
 use Rattle.trace.specs.declared.Header.{Header}
 use Rattle.words.specs.Each.{Each}
 use Rattle.words.specs.Words.{AreBytes}
-use Rattle.demands.specs.Json.{Member, Members, Value, jsonText, membersOf, numbersInValue, object}
+use Rattle.demands.specs.Json.{Members, Value, jsonText, object}
+use Rattle.demands.specs.JsonContents.{Member, membersOf, numbersInValue}
 use Rattle.demands.specs.JsonNumbers.{jsonNumbers, numbersOf}
 
 -- the context's words
@@ -30,20 +31,20 @@ byText Isr = ascii "\"isr\""
 byText Thread = ascii "\"thread\""
 
 -- the members of a line, in the order of document 01
-abbrev pub is : String → List ℕ → Member
-is name text = record { name = ascii name; text = text }
+abbrev pub labelled : String → List ℕ → Member
+labelled name text = record { name = ascii name; text = text }
 
 abbrev pub lineMembers : Line → Option (List ℕ) → List Member
 lineMembers l n =
-    is "key" (number (l .key))
-    ∷ is "ticks" (number (l .ticks))
-    ∷ is "us" (number (l .us))
-    ∷ is "id" (number (l .id))
-    ∷ is "ptr" (number (l .ptr))
-    ∷ is "by" (byText (l .by))
-    ∷ is "name" (name n)
-    ∷ is "field" (number (l .field))
-    ∷ is "info" (ascii "[" ++ separated (number (l .info .first) ∷ number (l .info .second) ∷ number (l .info .third) ∷ number (l .info .fourth) ∷ []) ++ ascii "]")
+    labelled "key" (number (l .key))
+    ∷ labelled "ticks" (number (l .ticks))
+    ∷ labelled "us" (number (l .us))
+    ∷ labelled "id" (number (l .id))
+    ∷ labelled "ptr" (number (l .ptr))
+    ∷ labelled "by" (byText (l .by))
+    ∷ labelled "name" (name n)
+    ∷ labelled "field" (number (l .field))
+    ∷ labelled "info" (ascii "[" ++ separated (number (l .info .first) ∷ number (l .info .second) ∷ number (l .info .third) ∷ number (l .info .fourth) ∷ []) ++ ascii "]")
     ∷ []
 
 -- no two of a list are the same

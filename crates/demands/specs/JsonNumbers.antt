@@ -2,12 +2,10 @@
 use Prim.Native.Nat.{ℕ, zero, suc}
 use mathlib.Core.Bool.{Bool, cond, _&&_, _||_}
 use mathlib.Core.List.{List, [], _∷_, _++_}
-use mathlib.Core.Option.{none}
 use lib.Dec.{eqb, leb}
 use Rattle.events.specs.Events.{eventAt}
 use Rattle.events.specs.Listing.{fields}
 use Rattle.events.specs.declared.Reading.{Reading}
-use Rattle.text.specs.Lines.{numbersIn, parts}
 use Rattle.text.specs.declared.Line.{Line}
 use Rattle.trace.specs.Slots.{eventCount}
 use Rattle.trace.specs.declared.Header.{Header}
@@ -36,7 +34,7 @@ isQuote c = eqb c 0x22
 abbrev pub isSlash : ℕ → Bool
 isSlash c = eqb c 0x5C
 
--- the numbers from there on, each as its bytes: outside strings, a byte that may begins a number, bytes that may go on with it, and any other ends it;
+-- the numbers from there on, each as its bytes: outside strings, a digit or a minus sign begins a number, bytes of numbers go on with it, and any other ends it;
 -- a quote begins a string or ends it, unless it stands behind a backslash
 unfoldable pub numbersRead : Stand → List ℕ → List (List ℕ)
 numbersRead outside [] = []
@@ -52,9 +50,10 @@ numbersRead slashed (c ∷ text) = numbersRead string text
 abbrev pub jsonNumbers : List ℕ → List (List ℕ)
 jsonNumbers text = numbersRead outside text
 
--- every number of a line, whose name has none, and of the first n lines of a listing, in their order
+-- every number of a line, and of the first n lines of a listing, in their order
 abbrev pub numbersOf : Line → List ℕ
-numbersOf l = numbersIn (parts l none)
+numbersOf l =
+    l .key ∷ l .ticks ∷ l .us ∷ l .id ∷ l .ptr ∷ l .field ∷ l .info .first ∷ l .info .second ∷ l .info .third ∷ l .info .fourth ∷ []
 
 unfoldable pub numbersTo : ℕ → List ℕ → Header → Reading → List ℕ
 numbersTo zero s h r = []

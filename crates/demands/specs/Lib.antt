@@ -4,6 +4,7 @@ pub mod Fakes
 pub mod Gives
 pub mod History
 pub mod Json
+pub mod JsonContents
 pub mod JsonLines
 pub mod JsonNumbers
 pub mod Keys

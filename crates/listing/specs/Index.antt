@@ -9,7 +9,7 @@ use Rattle.trace.specs.Layout.{entryAt, entryCount}
 use Rattle.trace.specs.Registry.{isThreadAt, pointerAt}
 use Rattle.trace.specs.declared.Header.{Header}
 
--- the place of a pointer: the upper bits of a product, which all bits of the pointer move
+-- the place of a pointer: bits 21 to 31 of a product, which all bits of the pointer move
 unfoldable pub placeOf : ℕ → ℕ
 placeOf pointer = pointer * 2654435769 / 2097152 % 2048
 
