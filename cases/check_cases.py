@@ -48,7 +48,7 @@ def sound():
 def length():
     case("length 0", "1 0", changed(Dump(), cut=0))
     case("length 47", "1 0", changed(Dump(), cut=47))
-    case("length 48 passes 1", "7 0", changed(Dump(), cut=48))
+    case("length 48 passes 1", "26 72", changed(Dump(), cut=48))
     full = Dump(entries=0, slots=2046).use(*range(2046))
     case("length 65536", 2046, changed(full, cut=65536))
     case("length 65537", "2 0", changed(Dump(), cut=65537))
@@ -86,8 +86,7 @@ def registry():
     case("registry end below the base", "7 0", shifted("registry_end", -49, entries=0))
     case("registry end one short of whole entries", "7 0", shifted("registry_end", -1))
     case("registry end one past whole entries", "7 0", shifted("registry_end", 1))
-    case("registry end at the dump's end passes 7", "9 0", changed(Dump(entries=3, slots=1), cut=48 + 3 * 24))
-    case("registry end past the dump", "7 0", changed(Dump(entries=3, slots=1), cut=48 + 3 * 24 - 1))
+    case("registry end above 65,536", "7 0", shifted("registry_end", 65544 - 120))
     for by in (-1, 1, -24, 32):
         case(f"buffer start off by {by}", "8 0", shifted("buffer_start", by))
 
@@ -99,8 +98,11 @@ def buffer():
     case("buffer of one slot, more bytes behind", 0, shifted("buffer_end", -96))
     case("buffer end one past a slot", "9 0", shifted("buffer_end", -95))
     case("buffer end one slot before the dump's end", 0, shifted("buffer_end", -32))
-    case("buffer end one slot past the dump", "9 0", shifted("buffer_end", 32))
-    case("buffer end one byte past the dump", "9 0", changed(Dump(), cut=48 + 3 * 24 + 127))
+    case("buffer end 65,536", 0, Dump(entries=1, slots=2044, name_size=64))
+    case("buffer end 65,536, more bytes behind", "2 0", changed(Dump(entries=1, slots=2044, name_size=64), cut=65537))
+    case("buffer end a slot above 65,536", "9 0", shifted("buffer_end", 65568 - 160, entries=1, slots=1, name_size=64))
+    case("buffer end a slot above 65,536, all but that slot there", "9 0",
+         shifted("buffer_end", 32, entries=1, slots=2044, name_size=64))
     case("current one slot before the start", "10 0", shifted("current", -32))
     case("current one byte before the start", "10 0", shifted("current", -1))
     case("current one byte past the start", "10 0", shifted("current", 1))
@@ -109,6 +111,20 @@ def buffer():
     case("current at the end", "10 0", shifted("current", 128))
     case("current one byte before the end", "10 0", shifted("current", 127))
     case("current a slot past the end", "10 0", changed(Dump().at(5), tail=bytes(64)))
+
+
+def cut_short():
+    """An end beyond the dump: the count of missing bytes. The registry ends at 120, the buffer at 248."""
+    for length, expected in ((47, "1 0"), (48, "26 72"), (49, "26 71"), (119, "26 1"), (120, "26 128"), (121, "26 127"),
+                             (247, "26 1"), (248, 2), (249, 2)):
+        case(f"cut to {length} bytes", expected, changed(Dump().use(0, 1).at(2), cut=length))
+    case("cut at the top of memory, end pointer 0", "26 1", changed(Dump(entries=4, slots=4, name_size=4, base=0xFFFFFF00), cut=255))
+    case("registry end far past the dump", "26 65272", shifted("registry_end", 65520 - 120))
+    case("registry end past the dump, not whole entries", "7 0", shifted("registry_end", 241))
+    case("buffer end one slot past the dump", "26 32", shifted("buffer_end", 32))
+    case("buffer end past the dump, not whole slots", "9 0", shifted("buffer_end", 33))
+    case("buffer end 65,536, one byte missing", "26 1", changed(Dump(entries=1, slots=2044, name_size=64), cut=65535))
+    case("buffer end 65,536, one slot there", "26 65376", shifted("buffer_end", 65536 - 160, entries=1, slots=1, name_size=64))
 
 
 def types():
@@ -164,6 +180,13 @@ def order_of_rows():
     case("5 before 6", "5 0", changed(shifted("registry_start", 1), name_size=3))
     case("6 before 7", "6 0", changed(shifted("registry_start", 1), registry_end=0))
     case("7 before 8", "7 0", shifted("registry_end", 1))
+    case("6 before 26", "6 0", changed(shifted("registry_start", 1), cut=100))
+    case("26 before 8", "26 112", shifted("registry_end", 240))
+    case("26 at the registry end before 9", "26 20", changed(shifted("buffer_end", 1), cut=100))
+    case("26 at the registry end before 26 at the buffer end", "26 20", changed(Dump(), cut=100))
+    case("8 before 26 at the buffer end", "8 0", changed(shifted("buffer_start", 32), cut=200))
+    case("26 at the buffer end before 10", "26 48", changed(Dump(), current=0, cut=200))
+    case("26 at the buffer end before 11", "26 48", changed(entry(1, 0, 0), cut=200))
     case("8 before 9", "8 0", changed(shifted("buffer_start", 1), buffer_end=0))
     case("9 before 10", "9 0", changed(shifted("buffer_end", 1), current=0))
     case("10 before 11", "10 0", changed(entry(0, 0, 0), current=0))
@@ -188,7 +211,7 @@ def seeded(chance):
     return dump
 
 
-for group in (sound, length, identity, mask, name_size, registry, buffer, types, ring, ids, order_of_rows):
+for group in (sound, length, identity, mask, name_size, registry, buffer, cut_short, types, ring, ids, order_of_rows):
     group()
 
 cases = Cases()

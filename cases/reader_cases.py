@@ -13,8 +13,8 @@ import json
 import sys
 from collections import namedtuple
 
-from dumps import (ALARM, INIT, ISR, PUMP, VALVE, WORDS, Dump, Refused, bad_type, broken, changed, damage, entry, no_id,
-                   slot)
+from dumps import (ALARM, INIT, ISR, OF_THE_HEADER, PUMP, VALVE, WORDS, Dump, Refused, bad_type, broken, changed, damage,
+                   entry, no_id, slot)
 from form import Cases, written
 from made import Chance
 from reader import Reading, find_name, listing, one_event, one_line, read_events, read_fields
@@ -363,7 +363,7 @@ def refusals():
         title = f"refusal {refusal}, {title}"
         an_event(f"{title}, event", dump, 0, refusal)
         both(title, dump, PLAIN, f"{refusal} 0")
-        if int(refusal.split()[0]) <= 11:
+        if int(refusal.split()[0]) in OF_THE_HEADER | {11}:
             a_name(f"{title}, name", dump, PUMP, f"{refusal} 0")
     both("refusal 14", stamped(1, 2), Reading(0, 0, 0), "14 0 0")
     both("refusal 14, empty ring", Dump(), Reading(0, 0, 0), "14 0 0")

@@ -13,7 +13,8 @@ import json
 import sys
 from collections import namedtuple
 
-from dumps import ALARM, INIT, ISR, PUMP, VALVE, WORDS, Dump, Refused, broken, changed, damage, entry, no_id, slot
+from dumps import (ALARM, INIT, ISR, OF_THE_HEADER, PUMP, VALVE, WORDS, Dump, Refused, broken, changed, damage, entry,
+                   no_id, slot)
 from form import MOST_IN_HEX, Cases, digest, written
 from made import Chance
 from reader import Reading, listing
@@ -395,7 +396,7 @@ def reserved_bytes():
 def damaged():
     """1 to 10 refuse every call that reads the header. Formatting does not read it."""
     for refusal, title, dump in broken():
-        if int(refusal.split()[0]) <= 10:
+        if int(refusal.split()[0]) in OF_THE_HEADER:
             case(f"refusal {refusal}, {title}", dump, (recording(slot()), refusal),
                  (registering(ALARM, b"alarm"), refusal), (removing(PUMP), refusal))
             case(f"refusal {refusal}, {title}, the call at fault too", dump, (recording(slot(0, ident=0)), refusal),

@@ -32,12 +32,14 @@ def main():
         program, cut = pathlib.Path(folder) / "list", pathlib.Path(folder) / "cut.dump"
         must("compiling the example", "cc", "-std=c99", "-O2", *STRICT, ROOT / "examples" / "list.c", LIBRARY, "-o", program)
         must("reading the header as C++", "c++", "-std=c++11", "-fsyntax-only", "-x", "c++", *STRICT, ROOT / "include" / "lepsaino.h")
-        cut.write_bytes(SAMPLE.read_bytes()[:47])
         # The lines are document 01's own.
         lines = (ROOT / "crates" / "lepsaino" / "stdout").read_bytes()
         example_gives(program, [SAMPLE, 3000000, 8192, 0], 0, lines)
         example_gives(program, [SAMPLE, 0, 8192, 0], 1, b"14 0\n")
-        example_gives(program, [cut, 3000000, 8192, 0], 1, b"1 0\n")
+        # The sample's registry ends at 72, its slots at 168.
+        for length, refusal in ((47, b"1 0\n"), (48, b"26 24\n"), (72, b"26 96\n"), (167, b"26 1\n")):
+            cut.write_bytes(SAMPLE.read_bytes()[:length])
+            example_gives(program, [cut, 3000000, 8192, 0], 1, refusal)
         example_gives(program, [SAMPLE, 3000000, 8192], 2, b"")
 
 

@@ -155,16 +155,17 @@ struct lepsaino_answer lepsaino_remove(uint8_t *buffer, size_t buffer_length, ui
 #endif
 
 /*
- * Refusals, by number. The place is 0 but for 11 (the lowest such entry), 12 and 13 (the lowest such slot) and 20 (that entry).
+ * Refusals, by number. The place is 0 but for 11 (the lowest such entry), 12 and 13 (the lowest such slot), 20 (that entry) and 26 (the count of missing
+ * bytes). 26 is the last part of checks 7 and 9: the order is 1 to 7, 26, 8, 9, 26, 10 and so on, first for the registry's end and then for the slots'.
  *  1  fewer than 48 bytes
  *  2  more than 65,536 bytes
  *  3  the id is neither pattern
  *  4  the mask is not w ones at the bottom, w from 1 to 32
  *  5  the name size is not a multiple of 4 from 4 to 64
  *  6  the registry does not start at offset 48
- *  7  the registry ends before 48, past the dump, or not after a whole number of entries
+ *  7  the registry ends before 48, past 65,536, or not after a whole number of entries
  *  8  the slots do not start where the registry ends
- *  9  the slots do not end past their start, end past the dump, or are not whole
+ *  9  the slots do not end past their start, end past 65,536, or are not whole
  * 10  current lies before the first slot, past the last, or not on a slot
  * 11  an entry in use has a type that is not allowed
  * 12  a slot breaks the used/unused rule
@@ -181,6 +182,7 @@ struct lepsaino_answer lepsaino_remove(uint8_t *buffer, size_t buffer_length, ui
  * 23  the name contains a zero byte
  * 24  no room for a header, the registry and one slot
  * 25  there is no event at that position
+ * 26  the dump was cut: the registry or the slots end past its length
  */
 
 #endif

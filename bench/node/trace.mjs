@@ -14,7 +14,12 @@ function orderOf(view) {
   throw new Refused(3);
 }
 
-/** Checks 1 to 10; the places come back as offsets. */
+/** An end past any dump has the number, one past this dump 26 with the count of missing bytes. A sound end is tested once. */
+function past(number, end, length) {
+  return end > 65536 ? new Refused(number) : new Refused(26, end - length);
+}
+
+/** Checks 1 to 7, 26, 8, 9, 26 and 10; the places come back as offsets. */
 function readHeader(bytes) {
   if (bytes.length < 48) throw new Refused(1);
   if (bytes.length > 65536) throw new Refused(2);
@@ -29,10 +34,12 @@ function readHeader(bytes) {
   if (offset(12) !== 48) throw new Refused(6);
   const entrySize = 16 + nameSize;
   const start = offset(20);
-  if (start < 48 || start > bytes.length || (start - 48) % entrySize !== 0) throw new Refused(7);
+  if (start < 48 || (start - 48) % entrySize !== 0) throw new Refused(7);
+  if (start > bytes.length) throw past(7, start, bytes.length);
   if (offset(24) !== start) throw new Refused(8);
   const end = offset(28);
-  if (end <= start || end > bytes.length || (end - start) % 32 !== 0) throw new Refused(9);
+  if (end <= start || (end - start) % 32 !== 0) throw new Refused(9);
+  if (end > bytes.length) throw past(9, end, bytes.length);
   const current = offset(32);
   if (current < start || current >= end || (current - start) % 32 !== 0) throw new Refused(10);
   return { bytes, view, little, base, mask, entrySize, start, end, current };
@@ -58,7 +65,7 @@ function checkSlots({ view, little, start, end, current }) {
   return full;
 }
 
-/** Checks 1 to 13; the header comes back with the oldest slot and the event count. */
+/** Checks 1 to 13 with 26; the header comes back with the oldest slot and the event count. */
 export function check(bytes) {
   const header = readHeader(bytes);
   checkEntries(header);
@@ -112,7 +119,7 @@ export function formatted(length) {
   return bytes;
 }
 
-/** Checks 1 to 10, 17 and 18, fills the slot at current and moves on; the slot's index comes back. */
+/** Checks 1 to 10 with 26, then 17 and 18, fills the slot at current and moves on; the slot's index comes back. */
 export function record(bytes, words) {
   const { view, little, base, mask, start, end, current } = readHeader(bytes);
   if (words[0] === 0) throw new Refused(17);

@@ -1,4 +1,4 @@
-//! Reads and writes ThreadX trace buffers as document 01 says: a second, independent writing of its rules.
+//! Reads and writes ThreadX trace buffers as document 01 says, with request A1 of document 02: a second, independent writing of the rules.
 #![forbid(unsafe_code)]
 
 pub mod answers;

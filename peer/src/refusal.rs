@@ -1,4 +1,4 @@
-//! The answer given in place of a result: a number of document 01's table and a place.
+//! The answer given in place of a result: a number and a place, as documents 01 and 02 give them.
 
 #[derive(Clone, Copy, Debug, PartialEq, Eq)]
 pub struct Refusal {

@@ -10,5 +10,5 @@ pub mod names;
 pub mod record;
 pub mod words;
 
-/// A number and a place of document 01's table.
+/// A number and a place, as documents 01 and 02 give them.
 pub type Refusal = (u32, usize);

@@ -1,6 +1,9 @@
 pub mod Answers
 pub mod BareNumbers
+pub mod Cut
+pub mod CutShort
 pub mod Demands
+pub mod EveryCall
 pub mod Fakes
 pub mod Gives
 pub mod History

@@ -14,8 +14,7 @@ use Rattle.events.specs.Events.{eventAt, eventOf, shownBy}
 use Rattle.events.specs.Listing.{Gave, lineAt, listingText, readingRows}
 use Rattle.events.specs.declared.Listed.{Listed}
 use Rattle.events.specs.declared.Reading.{Reading}
-use Rattle.events.specs.declared.Shown.the-variants as shown
-use Rattle.rows.proofs.Rows.{then-refused, then-same}
+use Rattle.rows.proofs.Rows.{then-same}
 use Rattle.rows.specs.Rows.{Row, firstBroken, row, rowAt}
 use Rattle.rows.specs.declared.Refusal.{Refusal}
 use Rattle.rows.specs.declared.Verdict.{Verdict}
@@ -24,11 +23,10 @@ use Rattle.trace.proofs.Passed.{current-within, entries-before, parts-apart, sl
 use Rattle.trace.proofs.SameDumps.{dump-same, events-same}
 use Rattle.trace.proofs.Opened.{open-rows}
 use Rattle.trace.specs.Check.{checkedBy, checkOf}
-use Rattle.trace.specs.Layout.{currentSlot, entryAt, entryCount, entrySize, headerOf, headerSize, registryEnd, slotAt, slotCount, slotSize}
-use Rattle.trace.specs.Names.{findName, nameBytes, nameOf, threadEntry}
+use Rattle.trace.specs.Layout.{currentSlot, entryAt, entryCount, entrySize, headerOf, headerSize, mostBytes, registryEnd, slotAt, slotCount, slotSize}
+use Rattle.trace.specs.Names.{nameBytes, nameOf, threadEntry}
 use Rattle.trace.specs.Slots.{eventCount, slotIn}
-use Rattle.trace.specs.Table.{dumpRows, eventRows, headerRows, row11, row12, row13, row16, row25}
-use Rattle.trace.specs.declared.Checked.the-variants as checked
+use Rattle.trace.specs.Table.{dumpRows, eventRows, headerRows, row16, row25}
 use Rattle.trace.specs.declared.Found.the-variants as found
 use Rattle.trace.specs.declared.Header.{Header}
 use Rattle.trace.specs.declared.Wanted.{Wanted}
@@ -37,11 +35,12 @@ use Rattle.writing.proofs.SameNames.{SameNamed, SameReach, names-agree}
 use Rattle.writing.proofs.SameRegistry.{RegistryKept, lowest-wanted, registry-kept}
 use Rattle.trace.proofs.SameBytes.{SameBut, same-header, same-slot}
 use Rattle.writing.specs.Table.{lowestEntry, row19, row20, row21, row22, row23}
-use Rattle.writing.specs.Writing.{Change, recording, registering, removing, said}
+use Rattle.writing.specs.Writing.{recording, registering, removing, said}
 use Rattle.writing.specs.Writing as writing
-use Rattle.writing.specs.declared.Outcome.the-variants as outcome
+use Rattle.demands.specs.EveryCall.{AllRefused}
 use Rattle.demands.specs.Names.{nameShown}
 use Rattle.demands.specs.NotRead.{DifferOnlyThere, NotRead, SameAnswers, Whole}
+use Rattle.demands.proofs.EveryCall.{all-refused}
 use Rattle.demands.proofs.SameLines.{event-name-same, event-same, line-same, listing-same}
 
 -- places that are read: of the header, and, where it passes, of an entry and of a slot
@@ -78,48 +77,19 @@ gave-same : (rows more : List Row) (text other old new : List ℕ) (said : Liste
     → Gave rows text old new said → Gave more other old new said
 gave-same rows more text other old new said say same gave = record { answered = rw (say, same) (gave .answered); output = rw (say, same) (gave .output) }
 
--- of two calls that are refused alike, what one gives the other gives
-gave-refused : (rows more : List Row) (text other old new : List ℕ) (said : Listed) (f : Refusal) → firstBroken rows ≡ Refused f → firstBroken more ≡ Refused f
-    → Gave rows text old new said → Gave more other old new said
-gave-refused rows more text other old new said f here there gave =
-    record { answered = rw there (rw here at (gave .answered)); output = rw there (rw here at (gave .output)) }
-
--- where rows 1 to 10 refuse, every call does
-module _ (s : List ℕ) (f : Refusal) (refused : firstBroken (headerRows (headerOf s) (length s)) ≡ Refused f) where
-  all-refused : (more : List Row) → firstBroken (headerRows (headerOf s) (length s) ++ more) ≡ Refused f
-  all-refused more = sym (then-refused (headerRows (headerOf s) (length s)) more f refused)
-
-  dump-refused : (more : List Row) → firstBroken (dumpRows s (headerOf s) ++ more) ≡ Refused f
-  dump-refused more = all-refused (row11 s (headerOf s) ∷ row12 s (headerOf s) ∷ row13 s (headerOf s) ∷ more)
-
-  check-refused : checkOf s ≡ checked.Refused f
-  unfolding checkOf
-  check-refused = rw (dump-refused [])
-
-  name-refused : (pointer : ℕ) → findName s pointer ≡ found.Refused f
-  unfolding findName
-  name-refused pointer = rw (all-refused (row11 s (headerOf s) ∷ []))
-
-  event-refused : (position : ℕ) → eventOf s position ≡ shown.Refused f
-  unfolding eventOf
-  event-refused position = rw (dump-refused (row25 position (eventCount s (headerOf s)) ∷ []))
-
-  said-refused : (c : Change) (more : List Row) → headerRows (headerOf s) (length s) ++ more ≡ c .rows → said c ≡ outcome.Refused f
-  said-refused c more all = ap (λ (v : Verdict). writing.outcomeBy v (c .gives)) (ap firstBroken (sym all) ∙ all-refused more)
-
-both-refused : (s t : List ℕ) (f : Refusal) → firstBroken (headerRows (headerOf s) (length s)) ≡ Refused f
-    → firstBroken (headerRows (headerOf t) (length t)) ≡ Refused f → SameAnswers s t
-unfolding nameBytes recording registering removing
+-- of two dumps on which every call is refused alike
+both-refused : (s t : List ℕ) (f : Refusal) → AllRefused s f → AllRefused t f → SameAnswers s t
+unfolding nameBytes
 both-refused s t f here there = record {
-  check = check-refused t f there ∙ sym (check-refused s f here);
-  name = λ pointer. record { found = name-refused t f there pointer ∙ sym (name-refused s f here pointer); bytes = rw (name-refused s f here pointer) };
-  event = λ position. event-refused t f there position ∙ sym (event-refused s f here position);
-  event-name = λ position. rw (event-refused s f here position);
-  listing = λ r old new said. gave-refused _ _ _ _ old new said f (dump-refused s f here _) (dump-refused t f there _);
-  line = λ r position old new said. gave-refused _ _ _ _ old new said f (dump-refused s f here _) (dump-refused t f there _);
-  recording = λ slot. said-refused t f there (recording slot t) _ refl ∙ sym (said-refused s f here (recording slot s) _ refl);
-  registering = λ object name. said-refused t f there (registering object name t) _ refl ∙ sym (said-refused s f here (registering object name s) _ refl);
-  removing = λ pointer. said-refused t f there (removing pointer t) _ refl ∙ sym (said-refused s f here (removing pointer s) _ refl);
+  check = there .check ∙ sym (here .check);
+  name = λ pointer. record { found = there .name pointer ∙ sym (here .name pointer); bytes = rw (here .name pointer) };
+  event = λ position. there .event position ∙ sym (here .event position);
+  event-name = λ position. rw (here .event position);
+  listing = λ r old new said gave. there .listing r old new said .1 (here .listing r old new said .0 gave);
+  line = λ r position old new said gave. there .line r position old new said .1 (here .line r position old new said .0 gave);
+  recording = λ slot. there .recording slot .0 ∙ sym (here .recording slot .0);
+  registering = λ object name. there .registering object name .0 ∙ sym (here .registering object name .0);
+  removing = λ pointer. there .removing pointer .0 ∙ sym (here .removing pointer .0);
 }
 
 module _ (s t : List ℕ) (there : DifferOnlyThere s t) where
@@ -203,11 +173,11 @@ pub not-read : (s t : List ℕ) → DifferOnlyThere s t → SameAnswers s t
 not-read s t there = by (firstBroken (headerRows (headerOf s) (length s))) refl
   where
     by : (v : Verdict) → firstBroken (headerRows (headerOf s) (length s)) ≡ v → SameAnswers s t
-    by (Refused f) refused = both-refused s t f refused (rows-same s t there ∙ refused)
+    by (Refused f) refused = both-refused s t f (all-refused s f refused) (all-refused t f (rows-same s t there ∙ refused))
     by Passed passed = both-passed s t there passed
 
 -- bytes appended to a dump that is whole lie past both ends
-pub appended : (s more : List ℕ) → Whole (headerOf s) (length s) → length (s ++ more) ≤ 65536 → SameAnswers s (s ++ more)
+pub appended : (s more : List ℕ) → Whole (headerOf s) (length s) → length (s ++ more) ≤ mostBytes → SameAnswers s (s ++ more)
 appended s more whole short = not-read s (s ++ more) (record { size = inr (whole, omega (arith, length-append s more)); same = λ i read. by i read (decLt i (length s)) })
   where
     by : (i : ℕ) → (NotRead (headerOf s) i → ⊥) → Dec (i < length s) → getD (s ++ more) i 0 ≡ getD s i 0

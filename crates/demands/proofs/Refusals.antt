@@ -31,6 +31,7 @@ use Rattle.writing.proofs.Opened.{open-writing-rows}
 use Rattle.writing.specs.Writing.{Change, formatting, left, outcomeBy, outcomeTold, recording, registering, removing, said}
 use Rattle.demands.specs.Demands.{FirstDemand, Writes}
 use Rattle.demands.specs.Refusals.{FirstBroken, Refuses, RefusesAndKeeps, Unbroken}
+use Rattle.demands.proofs.Cut.{cut, nonsense, only-cut, resumed, says-cut}
 
 -- the first broken row, found and given back
 one-more : (r : Row) (rows : List Row) (f : Refusal) → r .broken ≡ false → FirstBroken rows f → FirstBroken (r ∷ rows) f
@@ -196,4 +197,9 @@ first-demand = record {
   recording = λ slot s. writes (recording slot s) s refl;
   registering = λ object name s. writes (registering object name s) s refl;
   removing = λ pointer s. writes (removing pointer s) s refl;
+  says-cut = says-cut;
+  only-cut = only-cut;
+  nonsense = nonsense;
+  cut = cut;
+  resumed = resumed;
 }

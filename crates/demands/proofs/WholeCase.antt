@@ -19,5 +19,5 @@ use Rattle.demands.specs.WholeCase.{WholeCase, middle, middleLine, newes
 
 pub whole-case : (o : Order) → WholeCase o
 unfolding open-writing numbersRead pump middle middleLine newest newestLine oldest oldestLine reading threeLines wholeBytes wholeDump wholeHeader contextOf eventIn nameFor fields lineOf linesTo context line objectText partText parts valueText name escape escaped hexDigit isMarked isPlain digits digitsIn isBare number quoted key nameBytes nameIfEntry nameOf fromCurrent keep numbersFrom oldestFirst slotIn gap microseconds ticksOf
-whole-case Big = record { fresh = three-slots Big; typed = calls-typed; none-formats = none-formats; never-back = times-rise; writes = writes-accepted Big; made = calls-make Big; bytes = refl; check = refl; listing = refl; numbers = refl; room = refl; no-room = refl }
-whole-case Little = record { fresh = three-slots Little; typed = calls-typed; none-formats = none-formats; never-back = times-rise; writes = writes-accepted Little; made = calls-make Little; bytes = refl; check = refl; listing = refl; numbers = refl; room = refl; no-room = refl }
+whole-case Big = record { fresh = three-slots Big; typed = calls-typed; none-formats = none-formats; never-back = times-rise; writes = writes-accepted Big; made = calls-make Big; bytes = refl; check = refl; registry-cut = refl; slots-cut = refl; listing = refl; numbers = refl; room = refl; no-room = refl }
+whole-case Little = record { fresh = three-slots Little; typed = calls-typed; none-formats = none-formats; never-back = times-rise; writes = writes-accepted Little; made = calls-make Little; bytes = refl; check = refl; registry-cut = refl; slots-cut = refl; listing = refl; numbers = refl; room = refl; no-room = refl }

@@ -5,13 +5,13 @@ use mathlib.Core.List.{List, [], _∷_, _++_}
 use mathlib.Core.Logic.{inl}
 use mathlib.Core.Path.{_≡_, refl, sym, ap, _∙_}
 use native.Mathlib.Omega.{arith}
-use lib.ListN.{getD, replicate, set}
+use lib.ListN.{getD, length, replicate, set, take}
 use Rattle.events.specs.declared.Reading.{Reading}
 use Rattle.rows.specs.Rows.{Accepted}
 use Rattle.text.specs.Numbers.{digits, digitsIn}
 use Rattle.trace.proofs.Checks.{check-events, check-passed}
 use Rattle.trace.specs.Check.{checkOf, checkedTold}
-use Rattle.trace.specs.Layout.{headerOf, slotCount}
+use Rattle.trace.specs.Layout.{headerOf, registryEnd, slotCount}
 use Rattle.trace.specs.Ring.{fromCurrent, keep, numbersFrom, oldestFirst}
 use Rattle.trace.specs.Table.{row4}
 use Rattle.trace.specs.Times.{microseconds, stampOf}
@@ -23,11 +23,13 @@ use Rattle.writing.proofs.Opened.{open-writing}
 use Rattle.writing.specs.Writing.{formatting, left, recording, said}
 use Rattle.writing.specs.declared.Format.{Format}
 use Rattle.writing.specs.declared.Outcome.the-variants.{Done}
+use Rattle.demands.specs.Cut.{beforeEnds}
 use Rattle.demands.specs.History.{Call, NeverBack, Typed, Write, acceptedWrites, given, sinceOldest, wholeRanges, write}
 use Rattle.demands.specs.Masks.{range}
+use Rattle.demands.specs.Refusals.{givenAt}
 use Rattle.demands.specs.Shown.{ReadingAccepted}
 use Rattle.demands.specs.WholeCase.{fourthWrite, middle, newest, oldest, pump, wholeDump, wholeHeader}
-use Rattle.demands.specs.Wrong.{AlwaysAppended, AlwaysExact, CountGrows, MicrosecondsBare, SerialsTouch, StampsRise, Wrong}
+use Rattle.demands.specs.Wrong.{AlwaysAppended, AlwaysExact, CountGrows, CutOnce, MicrosecondsBare, NonsenseCut, SerialsTouch, StampsRise, Wrong}
 use Rattle.demands.proofs.BareNumbers.{bare-numbers}
 use Rattle.demands.proofs.Starred.{starred}
 use Rattle.demands.proofs.ThirdDemand.{third-demand}
@@ -41,6 +43,13 @@ whole = wholeDump Little
 
 abbrev faulty : List ℕ
 faulty = set whole 112 0
+
+-- the first bytes of that dump, and of the same with a registry end that is not behind a whole entry
+abbrev upload : List ℕ
+upload = take 60 whole
+
+abbrev nonsense : List ℕ
+nonsense = take 60 (set whole 20 73)
 
 -- a byte less than a header
 abbrev cut-off : List ℕ
@@ -79,10 +88,16 @@ record Computed : Type 0 where
   gone : sinceOldest apart 1 ≡ 65536
   short : checkOf cut-off ≡ Refused (record { number = 1; place = 0 })
   longer : checkOf (cut-off ++ (0 ∷ [])) ≡ Refused (record { number = 3; place = 0 })
+  begun : Accepted (beforeEnds (headerOf nonsense) (length nonsense))
+  came : length nonsense ≡ 60
+  beyond : registryEnd (headerOf nonsense) ≡ 73
+  not-whole : checkOf nonsense ≡ Refused (givenAt 7 0)
+  registry-cut : checkOf upload ≡ Refused (givenAt 26 12)
+  slots-cut : checkOf (upload ++ replicate 12 0) ≡ Refused (givenAt 26 96)
 
 computed : Computed
 unfolding open-writing pump middle newest oldest wholeDump wholeHeader fromCurrent keep numbersFrom oldestFirst digits digitsIn microseconds given fourthWrite twoSlots blank writeAt
-computed = record { oldest-stamp = refl; next-stamp = refl; first-digit = refl; no-mask = refl; slot-1 = refl; fifth = refl; header = refl; three = refl; two = refl; accepted = refl; range-is = refl; one-range = refl; gone = refl; short = refl; longer = refl }
+computed = record { oldest-stamp = refl; next-stamp = refl; first-digit = refl; no-mask = refl; slot-1 = refl; fifth = refl; header = refl; three = refl; two = refl; accepted = refl; range-is = refl; one-range = refl; gone = refl; short = refl; longer = refl; begun = refl; came = refl; beyond = refl; not-whole = refl; registry-cut = refl; slots-cut = refl }
 
 by-stamp : StampsRise → ⊥
 by-stamp wrong =
@@ -106,6 +121,15 @@ unfolding checkedTold
 appending wrong =
     let same = sym (computed .longer) ∙ wrong cut-off (0 ∷ []) (omega arith) .check ∙ computed .short in
     omega (arith, ap (λ (x : Checked). checkedTold x .number) same)
+
+saying-cut : NonsenseCut → ⊥
+unfolding checkedTold
+saying-cut wrong =
+    let said = wrong nonsense (computed .begun) (omega (arith, computed .came, computed .beyond)) (omega (arith, computed .beyond)) in
+    omega (arith, ap (λ (x : Checked). checkedTold x .number) (sym (computed .not-whole) ∙ said .1))
+
+cutting : CutOnce → ⊥
+cutting wrong = wrong upload (replicate 12 0) 12 96 (computed .registry-cut) refl (computed .slots-cut)
 
 growing : CountGrows → ⊥
 unfolding fourthWrite
@@ -141,5 +165,7 @@ wrong = record {
   no-places = λ wrong. omega (arith, wrong faulty _ (computed .slot-1));
   count-grows = growing;
   always-appended = appending;
+  nonsense-cut = saying-cut;
+  cut-once = cutting;
   always-exact = exact;
 }

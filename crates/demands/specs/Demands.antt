@@ -11,11 +11,11 @@ use Rattle.events.specs.declared.Reading.{Reading}
 use Rattle.rows.specs.Rows.{Accepted}
 use Rattle.text.specs.Numbers.{digits, isBare}
 use Rattle.trace.specs.Check.{checkOf, checkedTold}
-use Rattle.trace.specs.Layout.{headerOf}
+use Rattle.trace.specs.Layout.{headerOf, mostBytes}
 use Rattle.trace.specs.Names.{findName, foundTold}
 use Rattle.trace.specs.Ring.{keep}
 use Rattle.trace.specs.Slots.{eventCount}
-use Rattle.trace.specs.Table.{dumpRows, eventRows, registryRows}
+use Rattle.trace.specs.Table.{dumpRows, eventRows, headerRows, registryRows}
 use Rattle.trace.specs.declared.Checked.the-variants as checked
 use Rattle.trace.specs.declared.Header.{Header}
 use Rattle.trace.specs.declared.Slot.{Slot}
@@ -27,6 +27,8 @@ use Rattle.writing.specs.declared.Format.{Format}
 use Rattle.writing.specs.declared.Object.{Object}
 use Rattle.writing.specs.declared.Outcome.the-variants as outcome
 use Rattle.demands.specs.BareNumbers.{BareNumbers}
+use Rattle.demands.specs.Cut.{CutAt, CutShort, NonsenseEnd, Resumed, beforeEnds}
+use Rattle.demands.specs.EveryCall.{AllRefused, SomeRefused}
 use Rattle.demands.specs.Gives.{Gives}
 use Rattle.demands.specs.History.{Call, NeverBack, NoneFormats, Typed, Write, acceptedWrites, after, lastOf, sinceOldest, trueGap, wholeRanges}
 use Rattle.demands.specs.JsonLines.{JsonLines}
@@ -39,7 +41,7 @@ use Rattle.demands.specs.NotRead.{DifferOnlyThere, SameAnswers, Whole}
 use Rattle.demands.specs.Offsets.{Offsets}
 use Rattle.demands.specs.OrderAndTime.{OrderAndTime}
 use Rattle.demands.specs.Patterns.{Patterns}
-use Rattle.demands.specs.Refusals.{Orders, Refuses, RefusesAndKeeps}
+use Rattle.demands.specs.Refusals.{Orders, Refuses, RefusesAndKeeps, givenAt}
 use Rattle.demands.specs.Shown.{ReadingAccepted, linesOf, shownMicroseconds, shownTicks}
 use Rattle.demands.specs.Texts.{Texts}
 use Rattle.demands.specs.Turns.{Turns}
@@ -73,6 +75,14 @@ pub record FirstDemand : Type 0 where
   pub recording : (slot : Slot) (s : List ℕ) → Writes (recording slot s) s
   pub registering : (object : Object) (name s : List ℕ) → Writes (registering object name s) s
   pub removing : (pointer : ℕ) (s : List ℕ) → Writes (removing pointer s) s
+  -- 26 is given exactly where an end offset is otherwise right but beyond the dump's length, and callers pass it on; a nonsense end gets 7 or 9 (document 02, A1)
+  pub says-cut : (s : List ℕ) (k : ℕ) → CutShort (headerOf s) (length s) k → AllRefused s (givenAt 26 k)
+  pub only-cut : (s : List ℕ) (k : ℕ) → SomeRefused s (givenAt 26 k) → CutShort (headerOf s) (length s) k
+  pub nonsense : (s : List ℕ) → Accepted (beforeEnds (headerOf s) (length s)) → NonsenseEnd s
+  -- a dump that was cut says so: the first n bytes of any that passes 1 to 10, whatever later rows say of it
+  pub cut : (s : List ℕ) (n : ℕ) → Accepted (headerRows (headerOf s) (length s)) → CutAt s n
+  -- where 26 was given, fewer bytes appended leave the others missing; that many, whatever they are, and no 26 is given for that end any more
+  pub resumed : (s : List ℕ) (k : ℕ) → SomeRefused s (givenAt 26 k) → Resumed s k
 
 -- THE SECOND DEMAND
 
@@ -91,7 +101,7 @@ pub record SecondDemand : Type 0 where
   pub not-read : (s t : List ℕ) → DifferOnlyThere s t → SameAnswers s t
   -- so bytes appended past both ends change no answer of the calls that read, nor what recording, registering and removing say, as long as the whole
   -- stays at most 65,536 bytes
-  pub appended : (s more : List ℕ) → Whole (headerOf s) (length s) → length (s ++ more) ≤ 65536 → SameAnswers s (s ++ more)
+  pub appended : (s more : List ℕ) → Whole (headerOf s) (length s) → length (s ++ more) ≤ mostBytes → SameAnswers s (s ++ more)
   -- what the writer leaves, arguments having the width that their types say
   pub formats : (f : Format) (s : List ℕ) → f .base < 2 ^ 32 → Accepted (formatting f s .rows)
       → Formatted f s (left (formatting f s) s) (freshHeader f (freshEnd f (length s)))

@@ -1,5 +1,7 @@
 pub mod BareNumbers
+pub mod Cut
 pub mod Demands
+pub mod EveryCall
 pub mod Fakes
 pub mod Gives
 pub mod History

@@ -1,4 +1,4 @@
--- Reserved fields and bytes past the buffer end may hold anything and are not read: dumps that differ only there, or go on further past both ends, get the same answers.
+-- Reserved fields and bytes past the buffer end may hold anything and are not read: dumps that differ only there, or go on further past both ends, up to 65,536 bytes, get the same answers.
 use Prim.Native.Nat.{ℕ, _+_, _≤_, _<_}
 use mathlib.Core.List.{List}
 use mathlib.Core.Logic.{_⊎_}
@@ -9,7 +9,7 @@ use Rattle.events.specs.Listing.{Gave, lineAt, lineRows, listingRows, listingTe
 use Rattle.events.specs.declared.Listed.{Listed}
 use Rattle.events.specs.declared.Reading.{Reading}
 use Rattle.trace.specs.Check.{checkOf}
-use Rattle.trace.specs.Layout.{headerOf, headerSize, registryEnd, bufferEnd, entryAt, entryCount}
+use Rattle.trace.specs.Layout.{headerOf, headerSize, mostBytes, registryEnd, bufferEnd, entryAt, entryCount}
 use Rattle.trace.specs.Names.{nameBytes}
 use Rattle.trace.specs.declared.Header.{Header}
 use Rattle.trace.specs.declared.Slot.{Slot}
@@ -39,7 +39,7 @@ NotRead h i = ReservedInHeader i ⊎ (ReservedInEntry h i ⊎ PastEnd h i)
 
 -- long enough for both ends that the header names, and not too long
 abbrev pub Whole : Header → ℕ → Type 0
-Whole h n = (headerSize ≤ n) × (registryEnd h ≤ n) × (bufferEnd h ≤ n) × (n ≤ 65536)
+Whole h n = (headerSize ≤ n) × (registryEnd h ≤ n) × (bufferEnd h ≤ n) × (n ≤ mostBytes)
 
 -- two dumps that differ only there, and, where both are whole, in how far they go on past the ends
 pub record DifferOnlyThere (s t : List ℕ) : Type 0 where

@@ -1,13 +1,14 @@
--- Refusals in document 01's own words: a call is refused by the first row, in its order of checks, that is broken; and the orders, as numbers and places.
-use Prim.Native.Nat.{ℕ}
+-- Refusals in the words of document 01, as 02 amends it: a call is refused by the first row, in its order of checks, that is broken; and the orders, as numbers and places.
+use Prim.Native.Nat.{ℕ, _-_}
 use mathlib.Core.Bool.{true, false}
 use mathlib.Core.List.{List, [], _∷_, _++_, map}
 use mathlib.Core.Path.{_≡_}
+use lib.ListN.{length}
 use Rattle.rows.specs.Lowest.{lowest}
 use Rattle.rows.specs.Rows.{Row, refusal}
 use Rattle.rows.specs.Told.{Told, toldRefusal}
 use Rattle.rows.specs.declared.Refusal.{Refusal}
-use Rattle.trace.specs.Layout.{headerOf, slotCount}
+use Rattle.trace.specs.Layout.{bufferEnd, headerOf, registryEnd, slotCount}
 use Rattle.trace.specs.Ring.{numbersFrom}
 use Rattle.trace.specs.Slots.{isAtFault}
 use Rattle.trace.specs.Table.{dumpRows, eventRows, registryRows}
@@ -58,17 +59,18 @@ givenAt number place = record { number = number; place = place }
 abbrev pub plain : List ℕ → List Refusal
 plain numbers = map (λ number. givenAt number 0) numbers
 
--- 1 to 10; then 11 with the lowest such entry; then 12 and 13 with the lowest such slot
-abbrev pub headerOrder : List Refusal
-headerOrder = plain (numbersFrom 1 10)
+-- 1 to 7, and 26 with the bytes missing up to the registry end; 8, 9, and 26 with those missing up to the buffer end; 10; then 11 with the lowest such entry;
+-- then 12 and 13 with the lowest such slot
+abbrev pub headerOrder : Header → ℕ → List Refusal
+headerOrder h n = plain (numbersFrom 1 7) ++ (givenAt 26 (registryEnd h - n) ∷ plain (8 ∷ 9 ∷ [])) ++ (givenAt 26 (bufferEnd h - n) ∷ plain (10 ∷ []))
 
 abbrev pub registryOrder : List ℕ → Header → List Refusal
-registryOrder s h = headerOrder ++ (givenAt 11 (lowestEntry BadType s h) ∷ [])
+registryOrder s h = headerOrder h (length s) ++ (givenAt 11 (lowestEntry BadType s h) ∷ [])
 
 abbrev pub dumpOrder : List ℕ → Header → List Refusal
 dumpOrder s h = registryOrder s h ++ (givenAt 12 (lowest (isAtFault OutOfTurn s h) (slotCount h)) ∷ givenAt 13 (lowest (isAtFault NoId s h) (slotCount h)) ∷ [])
 
--- orders of checks
+-- orders of checks; 26 is the last part of checks 7 and 9, so that 1 to 10 have it twice
 pub record Orders : Type 0 where
   -- checking a dump, 1 to 13; finding a name, 1 to 11
   pub checking : (s : List ℕ) → checksOf (dumpRows s (headerOf s)) ≡ dumpOrder s (headerOf s)
@@ -79,8 +81,8 @@ pub record Orders : Type 0 where
   pub listing : (s : List ℕ) (r : Reading) (room : ℕ) → checksOf (listingRows s (headerOf s) r room) ≡ dumpOrder s (headerOf s) ++ plain (14 ∷ 15 ∷ 16 ∷ [])
   pub line : (s : List ℕ) (r : Reading) (position room : ℕ) → checksOf (lineRows s (headerOf s) r position room) ≡ dumpOrder s (headerOf s) ++ plain (14 ∷ 15 ∷ 25 ∷ 16 ∷ [])
   -- recording, 1 to 10, 17, 18; registering, 1 to 10, 19, 23, 20 with that entry, lowest, 21; removing, 1 to 10, 22; formatting, 2, 4, 5, 24
-  pub recording : (slot : Slot) (s : List ℕ) → checksOf (recording slot s .rows) ≡ headerOrder ++ plain (17 ∷ 18 ∷ [])
+  pub recording : (slot : Slot) (s : List ℕ) → checksOf (recording slot s .rows) ≡ headerOrder (headerOf s) (length s) ++ plain (17 ∷ 18 ∷ [])
   pub registering : (object : Object) (name s : List ℕ)
-      → checksOf (registering object name s .rows) ≡ headerOrder ++ plain (19 ∷ 23 ∷ []) ++ (givenAt 20 (lowestEntry (InUse (object .pointer)) s (headerOf s)) ∷ plain (21 ∷ []))
-  pub removing : (pointer : ℕ) (s : List ℕ) → checksOf (removing pointer s .rows) ≡ headerOrder ++ plain (22 ∷ [])
+      → checksOf (registering object name s .rows) ≡ headerOrder (headerOf s) (length s) ++ plain (19 ∷ 23 ∷ []) ++ (givenAt 20 (lowestEntry (InUse (object .pointer)) s (headerOf s)) ∷ plain (21 ∷ []))
+  pub removing : (pointer : ℕ) (s : List ℕ) → checksOf (removing pointer s .rows) ≡ headerOrder (headerOf s) (length s) ++ plain (22 ∷ [])
   pub formatting : (f : Format) (s : List ℕ) → checksOf (formatting f s .rows) ≡ plain (2 ∷ 4 ∷ 5 ∷ 24 ∷ [])

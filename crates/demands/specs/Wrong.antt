@@ -10,7 +10,7 @@ use Rattle.rows.specs.Rows.{Accepted}
 use Rattle.rows.specs.declared.Refusal.{Refusal}
 use Rattle.text.specs.Numbers.{digits, isBare, number}
 use Rattle.trace.specs.Check.{checkOf}
-use Rattle.trace.specs.Layout.{headerOf}
+use Rattle.trace.specs.Layout.{headerOf, mostBytes, registryEnd}
 use Rattle.trace.specs.Slots.{eventCount}
 use Rattle.trace.specs.Table.{dumpRows, row4}
 use Rattle.trace.specs.Times.{microseconds, stampOf}
@@ -22,9 +22,11 @@ use Rattle.writing.specs.Arguments.{IsSlot}
 use Rattle.writing.specs.Writing.{formatting, left, recording, said}
 use Rattle.writing.specs.declared.Format.{Format}
 use Rattle.writing.specs.declared.Outcome.the-variants.{Done}
+use Rattle.demands.specs.Cut.{beforeEnds}
 use Rattle.demands.specs.History.{Call, NeverBack, NoneFormats, Typed, acceptedWrites, after, lastOf, sinceOldest}
 use Rattle.demands.specs.Keys.{keyAt}
 use Rattle.demands.specs.NotRead.{SameAnswers}
+use Rattle.demands.specs.Refusals.{givenAt}
 use Rattle.demands.specs.Shown.{ReadingAccepted, shownTicks}
 
 -- "sorting by stamp": events stand in the order of their stamps
@@ -61,7 +63,18 @@ CountGrows =
 
 -- bytes appended change no answer, also where a dump was too short
 abbrev pub AlwaysAppended : Type 0
-AlwaysAppended = (s more : List ℕ) → length (s ++ more) ≤ 65536 → SameAnswers s (s ++ more)
+AlwaysAppended = (s more : List ℕ) → length (s ++ more) ≤ mostBytes → SameAnswers s (s ++ more)
+
+-- every registry end beyond the dump's length and at most 65,536 gives 26, also one that is not behind a whole entry
+abbrev pub NonsenseCut : Type 0
+NonsenseCut =
+    (s : List ℕ) → Accepted (beforeEnds (headerOf s) (length s)) → length s < registryEnd (headerOf s) → registryEnd (headerOf s) ≤ mostBytes
+    → (k : ℕ) × (checkOf s ≡ Refused (givenAt 26 k))
+
+-- where 26 was given and that many bytes are appended, no 26 is given at all, also where it was the registry end that was missed
+abbrev pub CutOnce : Type 0
+CutOnce =
+    (s more : List ℕ) (k j : ℕ) → checkOf s ≡ Refused (givenAt 26 k) → length more ≡ k → checkOf (s ++ more) ≡ Refused (givenAt 26 j) → ⊥
 
 -- the shown ticks are the true time, also where a true gap reaches the range
 abbrev pub AlwaysExact : Type 0
@@ -81,4 +94,6 @@ pub record Wrong : Type 0 where
   pub no-places : NoPlaces → ⊥
   pub count-grows : CountGrows → ⊥
   pub always-appended : AlwaysAppended → ⊥
+  pub nonsense-cut : NonsenseCut → ⊥
+  pub cut-once : CutOnce → ⊥
   pub always-exact : AlwaysExact → ⊥

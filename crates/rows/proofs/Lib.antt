@@ -1,2 +1,3 @@
 pub mod Lowest
+pub mod Numbered
 pub mod Rows

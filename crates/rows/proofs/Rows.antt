@@ -52,6 +52,11 @@ module _ (rs more : List Row) where
       by Passed e = refl
       by (Refused f) e = then-refused f e ∙ passed
 
+-- rows that have passed, and then one that is broken
+pub then-broken : (rs : List Row) (r : Row) (more : List Row) → firstBroken rs ≡ Passed → r .broken ≡ true → firstBroken (rs ++ (r ∷ more)) ≡ Refused (refusal r)
+unfolding firstBroken
+then-broken rs r more passed broken = sym (then-rest rs (r ∷ more) passed) ∙ rw broken
+
 -- one row more after a verdict that is known
 pub row-after : {v w x : Verdict} (r : Row) → x ≡ afterRow v r → v ≡ w → x ≡ afterRow w r
 row-after r e f = e ∙ ap (λ v. afterRow v r) f

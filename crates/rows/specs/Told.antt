@@ -1,4 +1,4 @@
--- An answer in numbers: document 01's number and place of a refusal, both 0 where nothing is refused, and then the values that are given.
+-- An answer in numbers: a refusal's number and place, both 0 where nothing is refused, and then the values that are given.
 use Prim.Native.Nat.{ℕ}
 use mathlib.Core.List.{List, []}
 use lib.ListN.{getD}

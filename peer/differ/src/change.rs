@@ -6,7 +6,7 @@ const HEADER: usize = 48;
 
 /// Changes one to three places; now and then the length too.
 pub fn change(chance: &mut Chance, buffer: &mut Vec<u8>) {
-    if chance.one_in(24) {
+    if chance.one_in(12) {
         change_length(chance, buffer);
     }
     for _ in 0..chance.pick(&[1, 1, 1, 2, 3]) {
@@ -16,12 +16,13 @@ pub fn change(chance: &mut Chance, buffer: &mut Vec<u8>) {
     }
 }
 
+/// A little longer or shorter, or cut anywhere.
 fn change_length(chance: &mut Chance, buffer: &mut Vec<u8>) {
     let step = chance.pick(&[1, 4, 31, 32, 33, 80]);
-    let length = if chance.one_in(2) {
-        buffer.len() + step
-    } else {
-        buffer.len().saturating_sub(step)
+    let length = match chance.below(3) {
+        0 => buffer.len() + step,
+        1 => buffer.len().saturating_sub(step),
+        _ => chance.below(buffer.len()),
     };
     buffer.resize(length, 0);
 }

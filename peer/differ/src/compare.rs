@@ -79,7 +79,7 @@ impl Comparison {
         let loan = &mut self.loan;
         loan.ready(&mut self.chance, buffer, room(call), name(call));
         let reply = answer(buffer, call);
-        self.tally.count(call, &reply);
+        self.tally.count(&self.before, call, &reply);
         let differing = self.differing(call, &reply);
         match differing.or_else(|| self.fault(buffer, call, &reply)) {
             None => Ok(()),

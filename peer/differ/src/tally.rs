@@ -2,9 +2,14 @@
 
 use peer::answers::Reply;
 use peer::call::Call;
+use peer::Header;
 use std::fmt;
 
-pub const REFUSALS: usize = 25;
+pub const REFUSALS: usize = 26;
+
+/// The refusal of a dump that stops before one of these ends.
+const CUT: usize = 26;
+const ENDS: [&str; 2] = ["registry end", "buffer end"];
 
 const KINDS: [&str; 10] = [
     "check",
@@ -25,22 +30,27 @@ pub struct Tally {
     pub changed: u64,
     accepted: [u64; KINDS.len()],
     refusals: [[u64; REFUSALS]; KINDS.len()],
+    cut: [[u64; ENDS.len()]; KINDS.len()],
 }
 
 impl Tally {
-    pub fn count(&mut self, call: &Call, reply: &Reply) {
+    /// The buffer is the one that the call found.
+    pub fn count(&mut self, buffer: &[u8], call: &Call, reply: &Reply) {
         self.inputs += 1;
         let kind = kind(call);
         match reply.refusal() {
-            Some(refusal) => self.count_refusal(kind, refusal.number as usize),
+            Some(refusal) => self.count_refusal(buffer, kind, refusal.number as usize),
             None => self.accepted[kind] += 1,
         }
     }
 
-    fn count_refusal(&mut self, kind: usize, number: usize) {
+    fn count_refusal(&mut self, buffer: &[u8], kind: usize, number: usize) {
         let name = KINDS[kind];
         assert!(can_give(kind, number), "{name} has no refusal {number}");
         self.refusals[kind][number - 1] += 1;
+        if number == CUT {
+            self.cut[kind][usize::from(has_registry(buffer))] += 1;
+        }
     }
 
     /// A number has no refusal.
@@ -61,8 +71,18 @@ impl Tally {
                     missing.push(format!("{name} refused with {number}"));
                 }
             }
+            missing.extend(self.ends_missing(kind));
         }
         missing
+    }
+
+    fn ends_missing(&self, kind: usize) -> Vec<String> {
+        let name = KINDS[kind];
+        let never = |end: &usize| can_give(kind, CUT) && self.cut[kind][*end] == 0;
+        (0..ENDS.len())
+            .filter(never)
+            .map(|end| format!("{name} refused with {CUT} at the {}", ENDS[end]))
+            .collect()
     }
 
     fn of_kind(&self, kind: usize) -> u64 {
@@ -72,20 +92,30 @@ impl Tally {
     fn refused_with(&self, number: usize) -> u64 {
         self.refusals.iter().map(|row| row[number - 1]).sum()
     }
+
+    fn cut_at(&self, end: usize) -> u64 {
+        self.cut.iter().map(|row| row[end]).sum()
+    }
 }
 
-/// Whether document 01's order of checks for a kind of call has the number.
+/// Whether the registry of a dump that was cut is there to its end.
+fn has_registry(dump: &[u8]) -> bool {
+    let header = Header::read(dump).expect("a dump that was cut has its header");
+    header.offset(header.registry_end) <= dump.len()
+}
+
+/// Whether the order of checks for a kind of call has the number.
 fn can_give(kind: usize, number: usize) -> bool {
     match KINDS[kind] {
-        "check" => number <= 13,
-        "event" => number <= 13 || number == 25,
-        "find name" => number <= 11,
-        "line" => number <= 16 || number == 25,
-        "listing" => number <= 16,
+        "check" => matches!(number, 1..=13 | CUT),
+        "event" => matches!(number, 1..=13 | 25 | CUT),
+        "find name" => matches!(number, 1..=11 | CUT),
+        "line" => matches!(number, 1..=16 | 25 | CUT),
+        "listing" => matches!(number, 1..=16 | CUT),
         "format" => matches!(number, 2 | 4 | 5 | 24),
-        "record" => matches!(number, 1..=10 | 17 | 18),
-        "register" => matches!(number, 1..=10 | 19..=21 | 23),
-        "remove" => matches!(number, 1..=10 | 22),
+        "record" => matches!(number, 1..=10 | 17 | 18 | CUT),
+        "register" => matches!(number, 1..=10 | 19..=21 | 23 | CUT),
+        "remove" => matches!(number, 1..=10 | 22 | CUT),
         _ => false,
     }
 }
@@ -114,6 +144,9 @@ impl fmt::Display for Tally {
         for number in 1..=REFUSALS {
             let count = self.refused_with(number);
             writeln!(text, "{:>10} refused with {}", count, number)?;
+        }
+        for (end, name) in ENDS.iter().enumerate() {
+            writeln!(text, "{:>10} of {} at the {}", self.cut_at(end), CUT, name)?;
         }
         Ok(())
     }

@@ -12,6 +12,7 @@ use std::path::Path;
 const SEED: u64 = 9_007_199_254_740_992;
 const GENERATED: usize = 4_000;
 const LETTERS: &[u8; 10] = b"cenlafwoxb";
+const REFUSALS: usize = 26;
 
 #[derive(Default)]
 struct Corpus {
@@ -22,8 +23,8 @@ struct Corpus {
     repeated: usize,
     count: usize,
     calls: [usize; 10],
-    refusals: [usize; 26],
-    with_place: [usize; 26],
+    refusals: [usize; REFUSALS + 1],
+    with_place: [usize; REFUSALS + 1],
 }
 
 impl Corpus {
@@ -81,7 +82,7 @@ impl Corpus {
         for (letter, count) in LETTERS.iter().zip(self.calls) {
             println!("calls {} {}", *letter as char, count);
         }
-        for number in 1..=25 {
+        for number in 1..=REFUSALS {
             let count = self.refusals[number];
             println!(
                 "refusal {} {}, place above 0: {}",

@@ -1,11 +1,12 @@
 //! Damages to a sketch: one function for each refusal of a dump, with values on both sides of its limit.
 
 use super::chance::Chance;
+use super::cut::cut;
 use super::sketch::Sketch;
 use super::values;
 use crate::limits::{FREE, ID};
 
-/// Damages what the refusal of this number (3 to 13) looks at; near misses leave the dump sound.
+/// Damages what the refusal of this number (3 to 13, or 26) looks at; near misses leave the dump sound.
 pub fn damage(chance: &mut Chance, sketch: &mut Sketch, number: u32) {
     match number {
         3 => sketch.id = wrong_id(chance),
@@ -18,7 +19,8 @@ pub fn damage(chance: &mut Chance, sketch: &mut Sketch, number: u32) {
         10 => current(chance, sketch),
         11 => entry_kind(chance, sketch),
         12 => slot_use(chance, sketch),
-        _ => slot_id(chance, sketch),
+        13 => slot_id(chance, sketch),
+        _ => cut(chance, sketch),
     }
 }
 
@@ -70,7 +72,8 @@ fn registry_end(chance: &mut Chance, sketch: &mut Sketch) {
     let entry = 16 + usize::from(sketch.name_size);
     let ring = sketch.ring();
     let length = sketch.length();
-    let past = 48 + ((length - 48) / entry + 1) * entry;
+    // Another damage may have cut the dump within its header.
+    let past = 48 + (length.saturating_sub(48) / entry + 1) * entry;
     let offsets = [
         47,
         48,
@@ -115,7 +118,7 @@ fn buffer_start(chance: &mut Chance, sketch: &mut Sketch) {
 fn buffer_end(chance: &mut Chance, sketch: &mut Sketch) {
     let ring = sketch.ring();
     let length = sketch.length();
-    let end = ring + 32 * sketch.slots.len();
+    let end = sketch.end();
     let offsets = [
         ring,
         ring - 32,
@@ -144,7 +147,7 @@ fn buffer_end(chance: &mut Chance, sketch: &mut Sketch) {
 
 fn current(chance: &mut Chance, sketch: &mut Sketch) {
     let ring = sketch.ring();
-    let end = ring + 32 * sketch.slots.len();
+    let end = sketch.end();
     let offsets = [
         ring - 32,
         ring - 1,

@@ -1,5 +1,6 @@
-//! The cases that document 01 itself names: its whole case, and both sides of each line.
+//! The cases that the documents themselves name: 01's whole case, both sides of each line, and the cut dumps of 02.
 
+use super::cut_cases::{cut_whole, far_ends};
 use super::draft::Draft;
 use crate::call::{Call, Registration};
 use crate::case::Case;
@@ -17,9 +18,12 @@ const PLAIN: Plan = Plan {
 };
 
 pub fn cases() -> Vec<Case> {
-    vec![
-        whole_case("the whole case", ByteOrder::Little, 8192),
-        whole_case("the whole case, big-endian", ByteOrder::Big, 1),
+    let little = whole_case("the whole case", ByteOrder::Little, 8192);
+    let big = whole_case("the whole case, big-endian", ByteOrder::Big, 1);
+    let cut = [cut_whole(&little, 10), cut_whole(&big, 11), far_ends(12)].concat();
+    let mut cases = vec![
+        little,
+        big,
         masks(),
         top_of_memory(),
         smallest_buffer(80),
@@ -32,7 +36,9 @@ pub fn cases() -> Vec<Case> {
         wrong_length(65_537),
         largest_listing(),
         largest_times(),
-    ]
+    ];
+    cases.extend(cut);
+    cases
 }
 
 fn start(title: &str, length: usize, plan: Plan) -> Draft {

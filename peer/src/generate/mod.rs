@@ -1,6 +1,8 @@
 //! Makes cases without end from a seed: each kind of case is one short function.
 
 pub mod chance;
+pub mod cut;
+pub mod cut_cases;
 pub mod damage;
 pub mod document;
 pub mod draft;
@@ -42,19 +44,20 @@ impl Generator {
     }
 
     pub fn next_case(&mut self) -> Case {
-        let mut case = match self.chance.below(200) {
+        let mut case = match self.chance.below(215) {
             0..=31 => reads::sound_dump(self),
             32..=43 => reads::many_threads(self),
-            44..=91 => reads::damaged_once(self),
-            92..=117 => reads::damaged_twice(self),
-            118..=129 => reads::flipped_bits(self),
-            130..=138 => reads::cut_or_lengthened(self),
-            139..=143 => reads::random_bytes(self),
-            144..=147 => reads::header_only(self),
-            148..=151 => reads::filled(self),
-            152..=155 => microseconds::at_the_limit(self),
-            156..=178 => writes::history(self),
-            179..=186 => writes::registry(self),
+            44..=93 => reads::damaged_once(self),
+            94..=119 => reads::damaged_twice(self),
+            120..=131 => cut::cut_dump(self),
+            132..=143 => reads::flipped_bits(self),
+            144..=152 => reads::cut_or_lengthened(self),
+            153..=157 => reads::random_bytes(self),
+            158..=161 => reads::header_only(self),
+            162..=165 => reads::filled(self),
+            166..=169 => microseconds::at_the_limit(self),
+            170..=192 => writes::history(self),
+            193..=200 => writes::registry(self),
             _ => writes::formatting(self),
         };
         self.made += 1;

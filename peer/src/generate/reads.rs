@@ -1,6 +1,7 @@
 //! Cases that read: sound dumps, damaged ones, altered ones, and bytes that never were a dump.
 
 use super::chance::Chance;
+use super::cut::{cut_length, entries_before};
 use super::damage::damage;
 use super::draft::Draft;
 use super::sound::{sound, Measure};
@@ -57,15 +58,18 @@ pub fn many_threads(generator: &mut Generator) -> Case {
     draft.finish()
 }
 
+/// The refusals that a damage aims at.
+const DAMAGES: [u32; 12] = [3, 4, 5, 6, 7, 8, 9, 10, 11, 12, 13, 26];
+
 pub fn damaged_once(generator: &mut Generator) -> Case {
-    let number = generator.chance.between(3, 13) as u32;
+    let number = generator.chance.pick(&DAMAGES);
     damaged(generator, &format!("damage {}", number), &[number])
 }
 
 /// Two damages at once show the order of the checks.
 pub fn damaged_twice(generator: &mut Generator) -> Case {
-    let first = generator.chance.between(3, 13) as u32;
-    let second = generator.chance.between(3, 13) as u32;
+    let first = generator.chance.pick(&DAMAGES);
+    let second = generator.chance.pick(&DAMAGES);
     damaged(
         generator,
         &format!("damages {} {}", first, second),
@@ -94,6 +98,9 @@ fn measure_for(chance: &mut Chance, numbers: &[u32]) -> Measure {
     }
     if numbers.contains(&12) || numbers.contains(&13) {
         measure.slots = chance.between(2, 5);
+    }
+    if numbers.contains(&26) {
+        measure.entries = entries_before(chance);
     }
     measure
 }
@@ -191,10 +198,14 @@ pub fn filled(generator: &mut Generator) -> Case {
     let mut sketch = sound(chance, &measure, &pointers);
     sketch.current = sketch.buffer_start;
     let slots = length.saturating_sub(sketch.ring()) / 32;
-    sketch.buffer_end = sketch.pointer(sketch.ring() + 32 * slots);
+    let end = sketch.ring() + 32 * slots;
+    sketch.buffer_end = sketch.pointer(end);
     let mut buffer = sketch.bytes();
     buffer.truncate(48);
     buffer.resize(length, fill);
+    if chance.one_in(3) {
+        buffer.truncate(cut_length(chance, sketch.ring(), end));
+    }
     let mut draft = Draft::new("filled", buffer, pointers);
     draft.check();
     draft.event(chance);

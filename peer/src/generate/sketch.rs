@@ -27,6 +27,8 @@ pub struct Sketch {
     pub entries: Vec<EntrySketch>,
     pub slots: Vec<[u32; 8]>,
     pub leftover: Vec<u8>,
+    /// Bytes from here on are cut off.
+    pub kept: usize,
 }
 
 impl Sketch {
@@ -40,12 +42,13 @@ impl Sketch {
             self.lay_word(*word, &mut bytes);
         }
         bytes.extend_from_slice(&self.leftover);
+        bytes.truncate(self.kept);
         bytes
     }
 
-    /// The length of the bytes laid out.
+    /// The length of the bytes laid out and kept.
     pub fn length(&self) -> usize {
-        self.ring() + 32 * self.slots.len() + self.leftover.len()
+        self.kept.min(self.end() + self.leftover.len())
     }
 
     /// The offset of the first slot as laid out, whatever the header says.
@@ -56,6 +59,11 @@ impl Sketch {
             .map(|entry| entry.name_field.len())
             .sum();
         48 + 16 * self.entries.len() + names
+    }
+
+    /// The offset past the last slot as laid out, whatever the header says.
+    pub fn end(&self) -> usize {
+        self.ring() + 32 * self.slots.len()
     }
 
     pub fn pointer(&self, offset: usize) -> u32 {

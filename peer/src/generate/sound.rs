@@ -68,6 +68,7 @@ pub fn sound(chance: &mut Chance, measure: &Measure, pointers: &[u32]) -> Sketch
             .collect(),
         slots,
         leftover: leftover(chance),
+        kept: usize::MAX,
     }
 }
 

@@ -23,6 +23,14 @@ pub fn any_write(chance: &mut Chance, draft: &mut Draft) {
     }
 }
 
+/// One record, one registration and one removal.
+pub fn every_write(chance: &mut Chance, draft: &mut Draft) {
+    let stamp = chance.word();
+    record(chance, draft, stamp);
+    register(chance, draft);
+    remove(chance, draft);
+}
+
 fn record(chance: &mut Chance, draft: &mut Draft, stamp: u32) {
     let pointers = if draft.pointers.is_empty() {
         vec![1]

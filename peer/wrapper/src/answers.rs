@@ -2,7 +2,7 @@
 
 use crate::raw::{self, Slot};
 
-/// A number and a place of document 01's table.
+/// A number and a place, as documents 01 and 02 give them.
 #[derive(Clone, Copy, Debug, PartialEq, Eq)]
 pub struct Refusal {
     pub number: u32,

@@ -3,13 +3,13 @@
 use crate::answers::{self, Checked, Event, Refusal};
 use crate::raw::{self, Reading};
 
-/// Checks a dump: 1 to 13.
+/// Checks a dump: 1 to 7, 26, 8, 9, 26, 10 to 13.
 pub fn check(dump: &[u8]) -> Result<Checked, Refusal> {
     // SAFETY: the slice may be read for its length, and nothing writes it while it is borrowed.
     answers::checked(unsafe { raw::lepsaino_check(dump.as_ptr(), dump.len()) })
 }
 
-/// One event by its position, from 0, oldest first: checks 1 to 13, then 25.
+/// One event by its position, from 0, oldest first: checks 1 to 13 with 26, then 25.
 pub fn event(dump: &[u8], position: usize) -> Result<Event<'_>, Refusal> {
     // SAFETY: the slice may be read for its length, and nothing writes it while it is borrowed.
     answers::event(dump, unsafe {
@@ -17,7 +17,7 @@ pub fn event(dump: &[u8], position: usize) -> Result<Event<'_>, Refusal> {
     })
 }
 
-/// The name of the thread with a pointer, as the part of the dump that it is: checks 1 to 11.
+/// The name of the thread with a pointer, as the part of the dump that it is: checks 1 to 11 with 26.
 pub fn find_name(dump: &[u8], pointer: u32) -> Result<Option<&[u8]>, Refusal> {
     // SAFETY: the slice may be read for its length, and nothing writes it while it is borrowed.
     answers::name(dump, unsafe {
@@ -25,7 +25,7 @@ pub fn find_name(dump: &[u8], pointer: u32) -> Result<Option<&[u8]>, Refusal> {
     })
 }
 
-/// The line of one event at the front of the output, and its length: checks 1 to 15, then 25, 16.
+/// The line of one event at the front of the output, and its length: checks 1 to 15 with 26, then 25, 16.
 pub fn line(
     dump: &[u8],
     reading: Reading,
@@ -45,7 +45,7 @@ pub fn line(
     })
 }
 
-/// A line for each event, oldest first, at the front of the output, and their length: checks 1 to 16.
+/// A line for each event, oldest first, at the front of the output, and their length: checks 1 to 16 with 26.
 pub fn listing(dump: &[u8], reading: Reading, out: &mut [u8]) -> Result<usize, Refusal> {
     // SAFETY: the output is borrowed for this call alone, so that it may be written and does not overlap the dump.
     answers::value(unsafe {

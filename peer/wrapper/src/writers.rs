@@ -9,13 +9,13 @@ pub fn format(buffer: &mut [u8], format: Format) -> Result<usize, Refusal> {
     answers::value(unsafe { raw::lepsaino_format(buffer.as_mut_ptr(), buffer.len(), format) })
 }
 
-/// Records an event in the slot at current and gives the slot's index: checks 1 to 10, 17, 18.
+/// Records an event in the slot at current and gives the slot's index: checks 1 to 10 with 26, then 17, 18.
 pub fn record(buffer: &mut [u8], slot: Slot) -> Result<usize, Refusal> {
     // SAFETY: the buffer is borrowed for this call alone, so that it may be read and written for its length.
     answers::value(unsafe { raw::lepsaino_record(buffer.as_mut_ptr(), buffer.len(), slot) })
 }
 
-/// Registers an object in the lowest free entry and gives the entry's index: checks 1 to 10, 19, 23, 20, 21.
+/// Registers an object in the lowest free entry and gives the entry's index: checks 1 to 10 with 26, then 19, 23, 20, 21.
 pub fn register(buffer: &mut [u8], object: Object, name: &[u8]) -> Result<usize, Refusal> {
     // SAFETY: the buffer is borrowed for this call alone, so that it may be written and does not overlap the name.
     answers::value(unsafe {
@@ -29,7 +29,7 @@ pub fn register(buffer: &mut [u8], object: Object, name: &[u8]) -> Result<usize,
     })
 }
 
-/// Frees the lowest entry in use that has a pointer and gives the entry's index: checks 1 to 10, 22.
+/// Frees the lowest entry in use that has a pointer and gives the entry's index: checks 1 to 10 with 26, then 22.
 pub fn remove(buffer: &mut [u8], pointer: u32) -> Result<usize, Refusal> {
     // SAFETY: the buffer is borrowed for this call alone, so that it may be read and written for its length.
     answers::value(unsafe { raw::lepsaino_remove(buffer.as_mut_ptr(), buffer.len(), pointer) })

@@ -1,0 +1,52 @@
+-- The calls of document 01 but formatting, eight of them: all are refused alike, or some call is refused so.
+use Prim.Native.Nat.{ℕ}
+use mathlib.Core.List.{List}
+use mathlib.Core.Logic.{_↔_}
+use mathlib.Core.Path.{_≡_}
+use lib.ListN.{length}
+use Rattle.events.specs.Events.{eventOf}
+use Rattle.events.specs.Listing.{Gave, lineAt, lineRows, listingRows, listingText}
+use Rattle.events.specs.declared.Listed.{Listed}
+use Rattle.events.specs.declared.Listed.the-variants as listed
+use Rattle.events.specs.declared.Reading.{Reading}
+use Rattle.events.specs.declared.Shown.the-variants as shown
+use Rattle.rows.specs.declared.Refusal.{Refusal}
+use Rattle.trace.specs.Check.{checkOf}
+use Rattle.trace.specs.Layout.{headerOf}
+use Rattle.trace.specs.Names.{findName}
+use Rattle.trace.specs.declared.Checked.the-variants as checked
+use Rattle.trace.specs.declared.Found.the-variants as found
+use Rattle.trace.specs.declared.Slot.{Slot}
+use Rattle.writing.specs.Writing.{Change, left, recording, registering, removing, said}
+use Rattle.writing.specs.declared.Object.{Object}
+use Rattle.writing.specs.declared.Outcome.the-variants as outcome
+
+-- a call that writes is refused so, and leaves the buffer
+abbrev pub Declined : Refusal → Change → List ℕ → Type 0
+Declined f c s = (said c ≡ outcome.Refused f) × (left c s ≡ s)
+
+-- every call but formatting is refused by the same number and place, and leaves what it is lent
+pub record AllRefused (s : List ℕ) (f : Refusal) : Type 0 where
+  pub check : checkOf s ≡ checked.Refused f
+  pub name : (pointer : ℕ) → findName s pointer ≡ found.Refused f
+  pub event : (position : ℕ) → eventOf s position ≡ shown.Refused f
+  pub listing : (r : Reading) (old new : List ℕ) (said : Listed)
+      → Gave (listingRows s (headerOf s) r (length old)) (listingText s (headerOf s) r) old new said ↔ ((said ≡ listed.Refused f) × (new ≡ old))
+  pub line : (r : Reading) (position : ℕ) (old new : List ℕ) (said : Listed)
+      → Gave (lineRows s (headerOf s) r position (length old)) (lineAt s (headerOf s) r position) old new said ↔ ((said ≡ listed.Refused f) × (new ≡ old))
+  pub recording : (slot : Slot) → Declined f (recording slot s) s
+  pub registering : (object : Object) (name : List ℕ) → Declined f (registering object name s) s
+  pub removing : (pointer : ℕ) → Declined f (removing pointer s) s
+
+-- some call but formatting is refused by this number and place
+pub data SomeRefused (s : List ℕ) (f : Refusal) : Type 0 where
+  by-check : checkOf s ≡ checked.Refused f → SomeRefused s f
+  by-name : (pointer : ℕ) → findName s pointer ≡ found.Refused f → SomeRefused s f
+  by-event : (position : ℕ) → eventOf s position ≡ shown.Refused f → SomeRefused s f
+  by-listing : (r : Reading) (old new : List ℕ)
+      → Gave (listingRows s (headerOf s) r (length old)) (listingText s (headerOf s) r) old new (listed.Refused f) → SomeRefused s f
+  by-line : (r : Reading) (position : ℕ) (old new : List ℕ)
+      → Gave (lineRows s (headerOf s) r position (length old)) (lineAt s (headerOf s) r position) old new (listed.Refused f) → SomeRefused s f
+  by-recording : (slot : Slot) → said (recording slot s) ≡ outcome.Refused f → SomeRefused s f
+  by-registering : (object : Object) (name : List ℕ) → said (registering object name s) ≡ outcome.Refused f → SomeRefused s f
+  by-removing : (pointer : ℕ) → said (removing pointer s) ≡ outcome.Refused f → SomeRefused s f
