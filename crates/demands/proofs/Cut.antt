@@ -13,9 +13,9 @@ use Rattle.rows.specs.Rows.{Accepted}
 use Rattle.trace.proofs.Passed.{dump-short, one-pointer, registry-sized, slots-end, slots-start, slots-within, startRows}
 use Rattle.trace.proofs.SameBytes.{same-header}
 use Rattle.trace.specs.Layout.{bufferEnd, headerOf, headerSize, mostBytes, registryEnd}
-use Rattle.trace.specs.Table.{headerRows}
+use Rattle.trace.specs.Table.{beforeEnds, headerRows}
 use Rattle.trace.specs.declared.Header.{Header}
-use Rattle.demands.specs.Cut.{CutAt, CutShort, MissedEnd, NonsenseEnd, RegistryThere, Resumed, beforeEnds}
+use Rattle.demands.specs.Cut.{CutAt, CutShort, MissedEnd, NonsenseEnd, RegistryThere, Resumed}
 use Rattle.demands.specs.EveryCall.{AllRefused, SomeRefused}
 use Rattle.demands.specs.NotRead.{NotRead}
 use Rattle.demands.specs.Refusals.{givenAt}

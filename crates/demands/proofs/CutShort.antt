@@ -15,9 +15,9 @@ use Rattle.rows.specs.declared.Verdict.the-variants.{Passed, Refused}
 use Rattle.trace.proofs.Opened.{open-rows}
 use Rattle.trace.proofs.Passed.{buffer-sized, dump-long, dump-short, entries-end, keeps, one-pointer, registry-sized, registry-within, slots-end, startRows}
 use Rattle.trace.specs.Layout.{bufferEnd, bufferStart, entryCount, entrySize, headerSize, mostBytes, registryEnd, slotCount, slotSize}
-use Rattle.trace.specs.Table.{headerRows, layoutRows, row1, row7, row8, row9, row10, row26}
+use Rattle.trace.specs.Table.{beforeEnds, headerRows, layoutRows, row1, row7, row8, row9, row10, row26}
 use Rattle.trace.specs.declared.Header.{Header}
-use Rattle.demands.specs.Cut.{CutShort, MissedEnd, Missing, RegistryThere, RightBuffer, RightRegistry, beforeEnds}
+use Rattle.demands.specs.Cut.{CutShort, MissedEnd, Missing, RegistryThere, RightBuffer, RightRegistry}
 use Rattle.demands.specs.Refusals.{givenAt}
 
 -- a length without a whole header gets 1

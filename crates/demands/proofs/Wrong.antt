@@ -13,7 +13,7 @@ use Rattle.trace.proofs.Checks.{check-events, check-passed}
 use Rattle.trace.specs.Check.{checkOf, checkedTold}
 use Rattle.trace.specs.Layout.{headerOf, registryEnd, slotCount}
 use Rattle.trace.specs.Ring.{fromCurrent, keep, numbersFrom, oldestFirst}
-use Rattle.trace.specs.Table.{row4}
+use Rattle.trace.specs.Table.{beforeEnds, row4}
 use Rattle.trace.specs.Times.{microseconds, stampOf}
 use Rattle.trace.specs.declared.Checked.{Checked}
 use Rattle.trace.specs.declared.Checked.the-variants.{Refused, Sound}
@@ -23,7 +23,6 @@ use Rattle.writing.proofs.Opened.{open-writing}
 use Rattle.writing.specs.Writing.{formatting, left, recording, said}
 use Rattle.writing.specs.declared.Format.{Format}
 use Rattle.writing.specs.declared.Outcome.the-variants.{Done}
-use Rattle.demands.specs.Cut.{beforeEnds}
 use Rattle.demands.specs.History.{Call, NeverBack, Typed, Write, acceptedWrites, given, sinceOldest, wholeRanges, write}
 use Rattle.demands.specs.Masks.{range}
 use Rattle.demands.specs.Refusals.{givenAt}

@@ -1,21 +1,17 @@
 -- An upload that was cut is told from a nonsense end (document 02, A1): every call but formatting says so, with the count of missing bytes, and that many bytes appended reach
 -- the end that was missed.
 use Prim.Native.Nat.{ℕ, _+_, _-_, _*_, _≤_, _<_}
-use mathlib.Core.List.{List, [], _∷_, _++_}
+use mathlib.Core.List.{List, _++_}
 use mathlib.Core.Logic.{_⊎_}
 use mathlib.Core.Path.{_≡_}
 use lib.ListN.{length, take}
-use Rattle.rows.specs.Rows.{Accepted, Row}
+use Rattle.rows.specs.Rows.{Accepted}
 use Rattle.trace.specs.Layout.{bufferEnd, bufferStart, entrySize, headerOf, headerSize, mostBytes, registryEnd, slotSize}
-use Rattle.trace.specs.Table.{row1, row2, row3, row4, row5, row6}
+use Rattle.trace.specs.Table.{beforeEnds}
 use Rattle.trace.specs.declared.Header.{Header}
 use Rattle.demands.specs.EveryCall.{AllRefused, SomeRefused}
 use Rattle.demands.specs.NotRead.{SameAnswers}
 use Rattle.demands.specs.Refusals.{givenAt}
-
--- 1 to 6, before either end is looked at
-abbrev pub beforeEnds : Header → ℕ → List Row
-beforeEnds h n = row1 n ∷ row2 n ∷ row3 h ∷ row4 (h .mask) ∷ row5 (h .«name_size») ∷ row6 h ∷ []
 
 -- an end offset that is right, whatever the dump's length: a number of whole parts behind a start, and at most 65,536
 pub record RightEnd (start size end : ℕ) : Type 0 where

@@ -15,7 +15,7 @@ use Rattle.trace.specs.Layout.{headerOf, mostBytes}
 use Rattle.trace.specs.Names.{findName, foundTold}
 use Rattle.trace.specs.Ring.{keep}
 use Rattle.trace.specs.Slots.{eventCount}
-use Rattle.trace.specs.Table.{dumpRows, eventRows, headerRows, registryRows}
+use Rattle.trace.specs.Table.{beforeEnds, dumpRows, eventRows, headerRows, registryRows}
 use Rattle.trace.specs.declared.Checked.the-variants as checked
 use Rattle.trace.specs.declared.Header.{Header}
 use Rattle.trace.specs.declared.Slot.{Slot}
@@ -27,7 +27,7 @@ use Rattle.writing.specs.declared.Format.{Format}
 use Rattle.writing.specs.declared.Object.{Object}
 use Rattle.writing.specs.declared.Outcome.the-variants as outcome
 use Rattle.demands.specs.BareNumbers.{BareNumbers}
-use Rattle.demands.specs.Cut.{CutAt, CutShort, NonsenseEnd, Resumed, beforeEnds}
+use Rattle.demands.specs.Cut.{CutAt, CutShort, NonsenseEnd, Resumed}
 use Rattle.demands.specs.EveryCall.{AllRefused, SomeRefused}
 use Rattle.demands.specs.Gives.{Gives}
 use Rattle.demands.specs.History.{Call, NeverBack, NoneFormats, Typed, Write, acceptedWrites, after, lastOf, sinceOldest, trueGap, wholeRanges}

@@ -12,7 +12,7 @@ use Rattle.text.specs.Numbers.{digits, isBare, number}
 use Rattle.trace.specs.Check.{checkOf}
 use Rattle.trace.specs.Layout.{headerOf, mostBytes, registryEnd}
 use Rattle.trace.specs.Slots.{eventCount}
-use Rattle.trace.specs.Table.{dumpRows, row4}
+use Rattle.trace.specs.Table.{beforeEnds, dumpRows, row4}
 use Rattle.trace.specs.Times.{microseconds, stampOf}
 use Rattle.trace.specs.declared.Checked.the-variants.{Refused, Sound}
 use Rattle.trace.specs.declared.Header.{Header}
@@ -22,7 +22,6 @@ use Rattle.writing.specs.Arguments.{IsSlot}
 use Rattle.writing.specs.Writing.{formatting, left, recording, said}
 use Rattle.writing.specs.declared.Format.{Format}
 use Rattle.writing.specs.declared.Outcome.the-variants.{Done}
-use Rattle.demands.specs.Cut.{beforeEnds}
 use Rattle.demands.specs.History.{Call, NeverBack, NoneFormats, Typed, acceptedWrites, after, lastOf, sinceOldest}
 use Rattle.demands.specs.Keys.{keyAt}
 use Rattle.demands.specs.NotRead.{SameAnswers}
