@@ -13,6 +13,10 @@ JOBS = {
     "find-last": "finding the last of 1,500 names",
     "record": "recording one event",
     "record-big": "recording one event, big-endian",
+    "mend": "mending the full dump",
+    "mend-packed": "mending the full dump, no id in its last slot",
+    "mend-cut": "mending half of the full dump",
+    "mend-entries": "mending 1,109 events, 1,500 entries",
     "numbers": "printing one number",
 }
 

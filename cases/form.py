@@ -8,8 +8,9 @@ from functools import lru_cache
 
 from made import keep
 
-# What the programs have room for.
-MOST_BYTES, MOST_ARGUMENTS, MOST_IN_HEX, MOST_CALLS, MOST_ROOM = 65537, 1024, 1024, 1000, 1599000
+# What the programs have room for; the room of a call that writes is by its letter.
+MOST_BYTES, MOST_ARGUMENTS, MOST_IN_HEX, MOST_CALLS = 65537, 1024, 1024, 1000
+MOST_ROOM = {"l": 1599000, "a": 1599000, "m": 65900}
 
 # A call's arguments as the programs read them, by the call's letter.
 ARGUMENTS = {
@@ -22,6 +23,7 @@ ARGUMENTS = {
     "w": lambda words: struct.pack("<8I", *words),
     "o": lambda thing, called: struct.pack("<BIII2s", *thing) + called,
     "x": lambda pointer: struct.pack("<I", pointer),
+    "m": lambda room: struct.pack("<I", room),
     "b": lambda: b"",
 }
 
@@ -40,6 +42,11 @@ def written(text):
     return f"{len(text)} 0\n{text}"[:-1]
 
 
+def mended(copy, counts, checked):
+    """The reply to a call that wrote a copy and changed nothing past it: six counts, and what the check says of it."""
+    return f"{len(copy)} {' '.join(map(str, counts))} 0 {digest(copy)}\n{checked}"
+
+
 def start(buffer):
     """A buffer by its length, the byte that it ends in, and all before that byte's last run."""
     last = buffer[-1:] or b"\0"
@@ -49,7 +56,7 @@ def start(buffer):
 
 def packed(letter, given):
     arguments = ARGUMENTS[letter](*given)
-    assert len(arguments) <= MOST_ARGUMENTS and (letter not in "la" or given[-1] <= MOST_ROOM)
+    assert len(arguments) <= MOST_ARGUMENTS and (letter not in MOST_ROOM or given[-1] <= MOST_ROOM[letter])
     return struct.pack("<cH", letter.encode(), len(arguments)) + arguments
 
 

@@ -1,10 +1,13 @@
 #!/usr/bin/env python3
 """The command ./lepsaino as a shell sees it: what it prints, where, and its exit status."""
+import ctypes
 import os
 import platform
 import resource
 import shutil
 import signal
+import socket
+import stat
 import subprocess
 import sys
 import tempfile
@@ -15,7 +18,7 @@ ROOT = Path(__file__).resolve().parent.parent
 sys.dont_write_bytecode = True
 sys.path.insert(0, str(ROOT / "cases"))
 
-from dumps import Dump
+from dumps import Dump, entry
 from reader import Reading, listing
 
 PUMP = (ROOT / "crates/lepsaino/data/pump.dump").read_bytes()
@@ -23,7 +26,9 @@ LINES = (ROOT / "crates/lepsaino/stdout").read_bytes()
 EMPTY = PUMP[:32] + PUMP[24:28] + PUMP[36:72] + bytes(96)
 FULL = Dump(entries=0, slots=2046).use(*range(2046)).bytes("<")
 FULL_LINES = listing(FULL, Reading(3000000, 8192, 0), 1500000).encode()
+CUT = (ROOT / "crates/lepsaino/data/cut.dump").read_bytes()
 USAGE = b"usage: lepsaino FILE RATE UNIT SERIAL\n"
+MEND_USAGE = b"usage: lepsaino mend FILE COPY\n"
 GOOD = ("3000000", "8192", "0")
 faults = []
 
@@ -149,13 +154,206 @@ def reader_leaves(folder):
     check("head -c 1", (done.stdout, done.stderr, done.returncode) == (b"{", b"", 0), done)
 
 
+def line_on(length, missing=0, current=0, types=0, ids=0, packed=0, moved=0):
+    """The line on a copy."""
+    counts = dict(length=length, missing=missing, current=current, types=types, ids=ids, packed=packed, moved=moved)
+    return ("{" + ",".join(f'"{name}":{count}' for name, count in counts.items()) + "}\n").encode()
+
+
+def all_damage():
+    """A dump with every kind of damage, and its copy by hand: of five slots 0, 2 and 3 are kept, and two of them move."""
+    dump, copy = Dump(2, 5).use(0, 1, 2, 3, 4), Dump(2, 5).use(0, 1, 2).at(3)
+    dump.current += 8
+    dump.entries[1] = entry(7, b"valve", kind=15)
+    dump.slots[1][2] = 0
+    dump.cut = 250
+    copy.entries[1] = entry(7, b"valve", kind=15, flag=1)
+    copy.slots[1:3] = dump.slots[2:4]
+    return dump.bytes(">"), copy.bytes(">"), line_on(256, 1, 1, 1, 1, 1, 2)
+
+
+# Of the sample the slots 1 and 0 are kept, in this order, and current goes behind them.
+CUT_COPY = PUMP[:32] + b"\x88\0\0\x20" + PUMP[36:72] + PUMP[104:136] + PUMP[72:104] + bytes(32)
+ALL, ALL_COPY, ALL_LINE = all_damage()
+MENDED = [
+    # the dump, the copy by hand, what is printed
+    (PUMP, PUMP, line_on(168)),
+    (PUMP + bytes(99), PUMP, line_on(168)),
+    (FULL, FULL, line_on(65520)),
+    (CUT, CUT_COPY, line_on(168, missing=1, packed=1, moved=2)),
+    (ALL, ALL_COPY, ALL_LINE),
+]
+
+
+def place(folder, **files):
+    """A folder of its own, with these files."""
+    made = Path(tempfile.mkdtemp(dir=folder))
+    for name, content in files.items():
+        (made / name).write_bytes(content)
+    return made
+
+
+def state(folder):
+    """What is in a folder: each name with its kind and permission bits, its number and its bytes."""
+    def one(path):
+        about = path.lstat()
+        held = os.readlink(path) if path.is_symlink() else path.read_bytes() if path.is_file() else None
+        return about.st_mode, about.st_ino, held
+    return {path.name: one(path) for path in Path(folder).iterdir()}
+
+
+def must_mend(what, done, path, others, copy=ALL_COPY, line=ALL_LINE, mode=None):
+    """The copy is at the path, with these permission bits, and beside it are these other files and no more."""
+    left = state(path.parent)
+    kind, _, held = left.get(path.name, (0, 0, None))
+    right = (done.stdout, done.stderr, done.returncode, held) == (line, b"", 0, copy)
+    check(what, right and set(left) == {path.name, *others} and mode in (None, stat.S_IMODE(kind)), (done, left))
+
+
+def mends(folder):
+    """Copies compared with those by hand, then listed, then mended over themselves, which changes no byte."""
+    for dump, copy, line in MENDED:
+        what, here = f"{len(dump)} bytes mended", place(folder, dump=dump)
+        must_mend(what, run(here, "mend", "dump", "copy"), here / "copy", ["dump"], copy, line)
+        done = run(here, "copy", *GOOD)
+        listed = listing(copy, Reading(3000000, 8192, 0), 1500000).encode()
+        check(f"{what}, listed", (done.stdout, done.stderr, done.returncode) == (listed, b"", 0), done)
+        must_mend(f"{what}, again", run(here, "mend", "copy", "copy"), here / "copy", ["dump"], copy, line_on(len(copy)))
+
+
+def bound():
+    """Root too is held to permission bits after that: it is a step before a command, and drops CAP_DAC_OVERRIDE."""
+    ctypes.CDLL(None).prctl(24, 1, 0, 0, 0)
+
+
+def mends_over(folder):
+    """What is replaced keeps its permission bits, a new file has those of the umask; a link stays."""
+    here = place(folder, dump=ALL)
+    must_mend("over the dump", run(here, "mend", "dump", "dump"), here / "dump", [])
+    for mode in (0o640, 0o604, 0o700):
+        here = place(folder, dump=ALL, old=b"old")
+        (here / "old").chmod(mode)
+        os.link(here / "old", here / "first")
+        must_mend(f"over {mode:o}", run(here, "mend", "dump", "old"), here / "old", ["dump", "first"], mode=mode)
+        check("the old bytes by another name", (here / "first").read_bytes() == b"old", state(here))
+    for mask in (0o022, 0o027, 0o177):
+        here = place(folder, dump=ALL)
+        done = run(here, "mend", "dump", "new", umask=mask, preexec_fn=bound)
+        must_mend(f"umask {mask:o}", done, here / "new", ["dump"], mode=0o666 & ~mask)
+    for name, others in (("old", []), ("new", ["old"])):
+        here, there = place(folder, dump=ALL), place(folder, old=b"old")
+        (here / "link").symlink_to(there / name)
+        must_mend(f"by a link to {name}", run(here, "mend", "dump", "link"), there / name, others)
+        left = state(here)
+        check(f"the link to {name}", left["link"][2] == str(there / name) and len(left) == 2, left)
+
+
+def mends_by_name(folder):
+    """Names of any kind; a file named mend is listed by another name of it."""
+    for name in ("a dump", "-f", "--", "a\nb\n", "mend", "*"):
+        here, there = place(folder, **{name: ALL}), place(folder)
+        must_mend(f"from {name!r}", run(here, "mend", name, there / "copy"), there / "copy", [])
+        must_mend(f"to {name!r}", run(there, "mend", here / name, name), there / name, ["copy"])
+    here = place(folder, mend=PUMP)
+    with open(here / "mend", "rb") as dump:
+        done = run(here, "mend", "/dev/stdin", "copy", stdin=dump)
+    must_mend("by standard input", done, here / "copy", ["mend"], PUMP, line_on(168))
+    done = [run(here, name, *GOOD) for name in ("./mend", "mend")]
+    right = [(one.stdout, one.stderr, one.returncode) for one in done] == [(LINES, b"", 0), (b"", MEND_USAGE, 2)]
+    check("a file named mend", right, done)
+
+
+def must_leave(what, here, done, error=None, out=b"", status=2):
+    """An error with one line, or a refusal; `here` is a folder and what was in it."""
+    right = (done.stdout or b"", done.returncode, done.stderr.count(b"\n")) == (out, status, status == 2)
+    check(what, right and error in (None, done.stderr), done)
+    check(f"{what}, what is left", state(here[0]) == here[1], state(here[0]))
+
+
+def mends_nothing(folder):
+    """Refusals, and errors on the way from the dump to the copy: all is as it was, with no file more."""
+    here = place(folder, pump=PUMP, short=PUMP[:47], cut=CUT[:71], old=b"old")
+    was = here, state(here)
+    for to in ("old", "new"):
+        must_leave(f"a short dump to {to}", was, run(here, "mend", "short", to), out=b"1 0\n", status=1)
+        must_leave(f"a cut registry to {to}", was, run(here, "mend", "cut", to), out=b"26 1\n", status=1)
+        must_leave(f"no dump to {to}", was, run(here, "mend", "none", to), b"none: No such file or directory\n")
+        must_leave(f"a folder to {to}", was, run(here, "mend", ".", to), b".: Is a directory\n")
+        must_leave(f"a name of two lines to {to}", was, run(here, "mend", "no\nne", to))
+        must_leave(f"no name to {to}", was, run(here, "mend", "", to))
+        for room in (0, 100):
+            done = run(here, "mend", "pump", to, preexec_fn=limit(room), restore_signals=False)
+            must_leave(f"{room} bytes of room, {to}", was, done, b"COPY cannot be written: File too large\n")
+        done = run(here, "mend", "pump", to, stdout=None, preexec_fn=lambda: os.close(1))
+        must_leave(f"closed output, {to}", was, done, b"lepsaino: standard output is closed\n")
+    for given in ((), ("pump",), ("pump", "old", "new"), GOOD):
+        must_leave(f"{len(given)} arguments", was, run(here, "mend", *given), MEND_USAGE)
+
+
+def mends_no_other(folder):
+    """What is no regular file is not replaced, nor is anything where the copy cannot be made."""
+    here = place(folder, pump=PUMP, old=b"old")
+    (here / "sub").mkdir()
+    os.mkfifo(here / "pipe")
+    put_device(here / "device")
+    for name, to in (("piped", "pipe"), ("lost", "none/copy"), ("turns", "turns"), ("to device", "device")):
+        (here / name).symlink_to(to)
+    was = here, state(here)
+    for to in ("sub", "."):
+        must_leave(f"to {to}", was, run(here, "mend", "pump", to), b"lepsaino: COPY cannot be written: it is a folder\n")
+    for to in ("sub/", "old/", "new/", "none/copy", "lost", "turns", "pipe", "piped", "device", "to device", "/dev/stdout", "/proc/copy",
+               "", "n" * 256, "n/" * 2500):
+        must_leave(f"to {to[:20]!r}", was, run(here, "mend", "pump", to))
+    with open(here / "gone", "wb") as gone:
+        (here / "gone").unlink()
+        done = run(here, "mend", "pump", f"/dev/fd/{gone.fileno()}", pass_fds=[gone.fileno()])
+        must_leave("to a file that has lost its name", was, done)
+    mends_nothing_protected(here)
+
+
+def put_device(path):
+    """A device of our own, since a wrong script run by root would replace the machine's; where we may make none, a socket."""
+    try:
+        os.mknod(path, stat.S_IFCHR | 0o666, os.makedev(1, 3))
+    except PermissionError:
+        with socket.socket(socket.AF_UNIX) as made:
+            made.bind(str(path))
+
+
+def mends_nothing_protected(here):
+    """A file or a folder that may not be written is left alone."""
+    for protected, to in (("old", "old"), (".", "old"), (".", "new")):
+        mode = (here / protected).stat().st_mode
+        (here / protected).chmod(0o555)
+        was = here, state(here)
+        if subprocess.run(["test", "-w", here / protected], preexec_fn=bound).returncode:
+            must_leave(f"{protected} protected, to {to}", was, run(here, "mend", "pump", to, preexec_fn=bound))
+        (here / protected).chmod(mode)
+
+
+def mended_not_printed(folder):
+    """The copy is there and whole where only its line could not be printed, or nobody reads it."""
+    here = place(folder, dump=ALL)
+    with open("/dev/full", "wb") as out:
+        done = run(here, "mend", "dump", "copy", stdout=out)
+    left = state(here)
+    right = (done.returncode, done.stderr.count(b"\n"), left.get("copy", [None])[-1]) == (2, 1, ALL_COPY)
+    check("a copy, /dev/full", right and len(left) == 2, (done, left))
+    ours, theirs = os.pipe()
+    os.close(ours)
+    done = run(here, "mend", "dump", "dump", stdout=theirs)
+    os.close(theirs)
+    check("a copy, no reader", (done.stderr, done.returncode, (here / "dump").read_bytes()) == (b"", 0, ALL_COPY), done)
+
+
 def help_text(folder):
-    """The usage line of the program, every exit status, and the first command of the README; nothing is built for it."""
+    """Both usage lines of the program, every exit status, and the first command of the README; nothing is built for it."""
     example = next(line for line in (ROOT / "README.md").read_text().splitlines() if line.startswith("    ./lepsaino "))
     for option in ("--help", "-h"):
         done = run(folder, option)
         lines = done.stdout.decode().splitlines()
-        right = done.stdout.startswith(USAGE) and example.strip() in [line.strip() for line in lines]
+        right = done.stdout.startswith(USAGE + MEND_USAGE.replace(b"usage:", b"      "))
+        right &= example.strip() in [line.strip() for line in lines]
         right &= all(any(line.startswith(f"  {status}  ") for line in lines) for status in (0, 1, 2))
         check(option, right and (done.stderr, done.returncode) == (b"", 0), done)
     one = StandIn(folder)
@@ -202,14 +400,14 @@ class StandIn:
         path = self.root / "calls"
         return path.read_text().count("call") if path.exists() else 0
 
-    def start(self):
+    def start(self, *arguments):
         """A use in a process group of its own."""
         pipes = dict(stdin=subprocess.DEVNULL, stdout=subprocess.PIPE, stderr=subprocess.PIPE)
-        return subprocess.Popen(self.root / "lepsaino", env=self.env, start_new_session=True, **pipes)
+        return subprocess.Popen([self.root / "lepsaino", *arguments], env=self.env, cwd=self.root, start_new_session=True, **pipes)
 
-    def building(self):
+    def building(self, *arguments):
         """A first use that builds and goes on when there is a file `go`."""
-        first = self.start()
+        first = self.start(*arguments)
         for _ in range(400):
             if self.calls():
                 break
@@ -283,11 +481,48 @@ def program_fails(folder):
         check(f"a program that ends by {failing}", right, done)
 
 
+def mend_fails(folder):
+    """A program that fails with half a copy, or claims one that is not there, leaves what was there."""
+    one = StandIn(folder)
+    one.go()
+    one.run()
+    here = place(folder, old=b"old")
+    was = here, state(here)
+    failures = [(failing, 2, b"") for failing in ("exit 3", "echo no >&2", "kill -SEGV $$", "rm $3; echo {}")]
+    for failing, status, out in (*failures, ("echo 1 0", 1, b"1 0\n")):
+        one.put("target/bin/lepsaino", f"#!/bin/sh\nprintf half >$3\n{failing}\n")
+        for to in ("old", "new"):
+            must_leave(f"mend, {failing}, {to}", was, one.run("mend", "dump", here / to), out=out, status=status)
+
+
+def mend_stopped(folder):
+    """A signal to all of us leaves what was there, but for a hangup: then the copy is carried through."""
+    one = StandIn(folder)
+    one.go()
+    one.run()
+    os.mkfifo(one.root / "wait")
+    gate = os.open(one.root / "wait", os.O_RDWR)
+    one.put("target/bin/lepsaino", "#!/bin/sh\nprintf whole >$3\necho call >>calls\nread line <wait\necho {}\n")
+    for number, held in ((signal.SIGINT, b"old"), (signal.SIGTERM, b"old"), (signal.SIGHUP, b"whole")):
+        here = place(folder, old=b"old")
+        (one.root / "calls").unlink()
+        process = one.building("mend", "dump", here / "old")
+        os.killpg(process.pid, number)
+        if number == signal.SIGHUP:
+            os.write(gate, b"go on\n")
+        process.communicate(timeout=60)
+        left = {name: about[2] for name, about in state(here).items()}
+        right = left == {"old": held} and (process.returncode == 0) == (number == signal.SIGHUP)
+        check(f"mend, {number.name}", right, (process.returncode, left))
+    os.close(gate)
+
+
 with tempfile.TemporaryDirectory() as folder:
     run(folder, timeout=None)  # builds the program where it is not built yet, and says so
     for name, dump in (("pump", PUMP), ("full", FULL), ("short", PUMP[:47])):
         (Path(folder) / name).write_bytes(dump)
-    for part in (plain, not_printed, no_work_room, reader_leaves, help_text, builds, program_fails):
+    for part in (plain, not_printed, no_work_room, reader_leaves, mends, mends_over, mends_by_name, mends_nothing, mends_no_other,
+                 mended_not_printed, help_text, builds, program_fails, mend_fails, mend_stopped):
         part(folder)
 print("\n".join(faults), end="\n" if faults else "", file=sys.stderr)
 sys.exit(1 if faults else 0)

@@ -94,6 +94,19 @@ struct lepsaino_name {
     size_t length;
 };
 
+/* What mending gives: the copy's length, and what was mended, in six counts. */
+struct lepsaino_mended {
+    uint32_t refusal;
+    size_t place;
+    size_t length;   /* the copy's length */
+    size_t missing;  /* slots zeroed as missing, or partly missing */
+    size_t current;  /* 1 where current was bad and became the start */
+    size_t types;    /* entries freed for a type that is not allowed */
+    size_t ids;      /* used slots zeroed for the id 0 */
+    size_t packed;   /* 1 where the used slots were packed */
+    size_t moved;    /* used slots whose index packing changed */
+};
+
 /* What a listing goes by: the clock rate in Hz, the unit number and the first serial. */
 struct lepsaino_reading {
     uint32_t rate;
@@ -138,6 +151,15 @@ struct lepsaino_answer lepsaino_listing(const uint8_t *dump, size_t dump_length,
 /* The text of a number as in a line, at the front of out, and its length: bare digits up to and including 2^53, in quotes above. 0, and nothing written, where there is no room. */
 size_t lepsaino_number(uint8_t *out, size_t out_length, uint64_t number);
 
+/*
+ * Reads a dump and writes a mended copy, which passes every check, at the front of copy: checks 1 to 9, save 26 for the slots' end, then 16. The copy is the
+ * dump's bytes up to the slots' end, changed in this order: a slot that is not wholly within the dump becomes zeros; a bad current becomes the first slot; an
+ * entry in use with a type that is not allowed becomes free; a used slot with the event id 0 becomes zeros; where the used/unused rule is broken then, the used
+ * slots are packed from the first slot on in the order from current, the rest become zeros, and current is set behind the last, or to the first slot where there
+ * is none. copy past its length keeps its bytes.
+ */
+struct lepsaino_mended lepsaino_mend(const uint8_t *dump, size_t dump_length, uint8_t *copy, size_t copy_length);
+
 /* Formats a buffer: checks 2, 4, 5, 24. The value is the number of slots; bytes left over stay. */
 struct lepsaino_answer lepsaino_format(uint8_t *buffer, size_t buffer_length, struct lepsaino_format format);
 
@@ -172,7 +194,7 @@ struct lepsaino_answer lepsaino_remove(uint8_t *buffer, size_t buffer_length, ui
  * 13  a used slot has the event id 0
  * 14  the clock rate is 0
  * 15  the unit number is 2^24 or more, or the first serial plus the event count is above 2^40
- * 16  the text is longer than the output
+ * 16  the text is longer than the output, or the copy than its room
  * 17  an event with the thread pointer 0
  * 18  an event with the id 0
  * 19  the object's type is not allowed

@@ -1,6 +1,7 @@
-//! The baselines in Rust do all that document 01 asks: they give what the peer gives, refusals too.
+//! The baselines in Rust do all that documents 01 and 02 ask: they give what the peer gives, refusals too.
 
 use crate::competitors::refused_by_peer;
+use crate::files::agreed_mending;
 use crate::plain::check::check;
 use crate::plain::find::find_name;
 use crate::plain::record::record;
@@ -59,6 +60,7 @@ fn baselines_agree_with_the_peer() {
                 Call::Check => compare_check(&buffer),
                 Call::FindName { pointer } => compare_name(&buffer, *pointer),
                 Call::Record(words) => compare_record(&mut buffer, words),
+                Call::Mend { room } => drop(agreed_mending(&buffer, *room as usize)),
                 _ => drop(peer::answers::answer(&mut buffer, call)),
             }
         }

@@ -1,9 +1,9 @@
 //! Who competes in each job, each behind a function of the same form.
 
 use crate::contest::opaque;
-use crate::plain::{called, check, find, record, Refusal};
+use crate::plain::{called, check, find, mend, record, Refusal};
 use crate::{with_itoa, with_serde};
-use lepsaino::{Reading, Slot};
+use lepsaino::{Mended, Reading, Slot};
 
 /// Room for any listing.
 const ROOM: usize = 1_600_000;
@@ -17,6 +17,8 @@ pub type Checker = fn(&[u8]) -> Result<usize, Refusal>;
 pub type Finder = fn(&[u8], u32) -> Result<Option<&[u8]>, Refusal>;
 /// Records so many events and gives the index of the last slot filled.
 pub type Recorder = fn(&mut [u8], u32) -> usize;
+/// Writes a mended copy of the dump into the other bytes.
+pub type Mender = fn(&[u8], &mut [u8]) -> Result<Mended, Refusal>;
 /// Reads the dump, or copies it into the other bytes.
 pub type Reader = fn(&[u8], &mut [u8]) -> u64;
 
@@ -114,14 +116,25 @@ pub const RECORDERS: [(&str, Recorder); 4] = [
     }),
 ];
 
-/// These only touch the bytes.
-pub const READERS: [(&str, Reader); 2] = [
-    ("sum", |dump, _| sum(dump)),
-    ("copy", |dump, copy| {
-        copy.copy_from_slice(dump);
-        u64::from(copy[0])
+pub const MENDERS: [(&str, Mender); 4] = [
+    ("lepsaino", |dump, copy| {
+        lepsaino::mend(dump, copy).map_err(refused)
+    }),
+    ("plain", |dump, copy| mend::mend(dump, copy)),
+    ("plain-call", |dump, copy| called::mend(dump, copy)),
+    ("peer", |dump, copy| match peer::mend(dump, copy) {
+        Ok(mended) => Ok(mended_by_peer(mended)),
+        Err(refusal) => Err(refused_by_peer(refusal)),
     }),
 ];
+
+/// These only touch the bytes.
+pub const READERS: [(&str, Reader); 2] = [("sum", |dump, _| sum(dump)), COPIER];
+
+pub const COPIER: (&str, Reader) = ("copy", |dump, copy| {
+    copy.copy_from_slice(dump);
+    u64::from(copy[0])
+});
 
 fn refused(refusal: lepsaino::Refusal) -> Refusal {
     (refusal.number, refusal.place)
@@ -129,6 +142,19 @@ fn refused(refusal: lepsaino::Refusal) -> Refusal {
 
 pub fn refused_by_peer(refusal: peer::Refusal) -> Refusal {
     (refusal.number, refusal.place)
+}
+
+fn mended_by_peer(mended: peer::Mended) -> Mended {
+    let [missing, current, types, ids, packed, moved] = mended.counts();
+    Mended {
+        length: mended.length,
+        missing,
+        current,
+        types,
+        ids,
+        packed,
+        moved,
+    }
 }
 
 /// The library writes into bytes that are lent, which must be there.

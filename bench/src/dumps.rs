@@ -8,7 +8,7 @@ use peer::generate::chance::Chance;
 pub const LITTLE: u32 = 0;
 pub const BIG: u32 = 1;
 
-const LARGEST: usize = 65_536;
+pub const LARGEST: usize = 65_536;
 const BASE: u32 = 0x2000_0000;
 const FIRST_THREAD: u32 = BASE + 0x1000;
 const KINDS: [&str; 8] = [
@@ -131,6 +131,13 @@ pub fn full(big: u32) -> Dump {
 pub fn without_id(slot: usize) -> Dump {
     let mut dump = full(LITTLE);
     dump.bytes[48 + 32 * slot + 8..][..4].fill(0);
+    dump
+}
+
+/// The first half of the full dump.
+pub fn half() -> Dump {
+    let mut dump = full(LITTLE);
+    dump.bytes.truncate(LARGEST / 2);
     dump
 }
 

@@ -1,10 +1,11 @@
 //! Writes dumps and the library's answers into a folder, once every competitor in Rust has given the same.
 
-use crate::competitors::{Lister, CHECKERS, FINDERS, PRINTERS, RECORDERS};
-use crate::dumps::{full, with_names, Dump, LITTLE};
+use crate::competitors::{Lister, CHECKERS, FINDERS, MENDERS, PRINTERS, RECORDERS};
+use crate::dumps::{full, with_names, Dump, LARGEST, LITTLE};
 use crate::jobs::{Job, Work, JOBS, RECORDED};
 use crate::numbers::fixed;
 use crate::plain::Refusal;
+use lepsaino::Mended;
 use std::io;
 use std::path::Path;
 
@@ -32,6 +33,7 @@ fn answer(job: &Job) -> Vec<u8> {
         Work::Check(expected) => checked(&dump, expected).into_bytes(),
         Work::Find(pointer, expected) => found(&dump, pointer, expected).to_vec(),
         Work::Record => recorded(&dump),
+        Work::Mend(expected) => mended(&dump, expected),
     }
 }
 
@@ -63,6 +65,20 @@ fn recorded(dump: &Dump) -> Vec<u8> {
         let mut buffer = dump.bytes.clone();
         record(&mut buffer, RECORDED);
         (name, buffer)
+    }))
+}
+
+fn mended(dump: &Dump, expected: Mended) -> Vec<u8> {
+    let (answer, copy) = agreed_mending(&dump.bytes, LARGEST);
+    assert_eq!(answer, Ok(expected));
+    copy[..expected.length].to_vec()
+}
+
+/// The answer, and the whole of a second buffer with that room.
+pub fn agreed_mending(dump: &[u8], room: usize) -> (Result<Mended, Refusal>, Vec<u8>) {
+    agreed(MENDERS.map(|(name, mend)| {
+        let mut copy = vec![b'.'; room];
+        (name, (mend(dump, &mut copy), copy))
     }))
 }
 

@@ -1,21 +1,25 @@
 //! The jobs, and how they are timed.
 
-use crate::competitors::{Checker, Finder, Lister, Printer, Reader, Recorder};
-use crate::competitors::{CHECKERS, FINDERS, LISTERS, PRINTERS, READERS, RECORDERS, ROOMS};
+use crate::competitors::{Checker, Finder, Lister, Mender, Printer, Reader, Recorder};
+use crate::competitors::{CHECKERS, COPIER, FINDERS, LISTERS, MENDERS, PRINTERS, READERS};
+use crate::competitors::{RECORDERS, ROOMS};
 use crate::contest::{contest, opaque, Competitor, Measure};
-use crate::dumps::{empty, full, thread, with_entries, with_names, without_id, Dump, BIG, LITTLE};
+use crate::dumps::{empty, full, half, thread, with_entries, with_names, without_id};
+use crate::dumps::{Dump, BIG, LARGEST, LITTLE};
 use crate::numbers::fixed;
 use crate::plain::Refusal;
+use lepsaino::Mended;
 
 /// How many events are recorded in a call where recording is timed.
 pub const RECORDED: u32 = 1_000_000;
 
-/// What is done to a dump; for a listing, by whom; for a check and a search, what must come of it.
+/// What is done to a dump; for a listing, by whom; for a check, a search and a mending, what must come of it.
 pub enum Work {
     List(&'static [(&'static str, Lister)]),
     Check(Result<usize, Refusal>),
     Find(u32, &'static [u8]),
     Record,
+    Mend(Mended),
 }
 
 pub struct Job {
@@ -25,7 +29,7 @@ pub struct Job {
 }
 
 /// All but the numbers, which have no dump.
-pub const JOBS: [Job; 12] = [
+pub const JOBS: [Job; 16] = [
     job("listing-full", || full(LITTLE), Work::List(&LISTERS)),
     job("listing-big", || full(BIG), Work::List(&LISTERS)),
     job("listing-exact", || full(LITTLE), Work::List(&ROOMS)),
@@ -50,7 +54,40 @@ pub const JOBS: [Job; 12] = [
     ),
     job("record", || empty(LITTLE), Work::Record),
     job("record-big", || empty(BIG), Work::Record),
+    job("mend", || full(LITTLE), Work::Mend(SOUND)),
+    job("mend-packed", || without_id(2_045), Work::Mend(PACKED)),
+    job("mend-cut", half, Work::Mend(CUT)),
+    job("mend-entries", with_entries, Work::Mend(SOUND_ENTRIES)),
 ];
+
+/// Nothing was mended.
+const SOUND: Mended = Mended {
+    length: 65_520,
+    missing: 0,
+    current: 0,
+    types: 0,
+    ids: 0,
+    packed: 0,
+    moved: 0,
+};
+const SOUND_ENTRIES: Mended = Mended {
+    length: 65_536,
+    ..SOUND
+};
+/// One slot was zeroed, and all the others were moved.
+const PACKED: Mended = Mended {
+    ids: 1,
+    packed: 1,
+    moved: 2_045,
+    ..SOUND
+};
+/// The slots that are missing lie in the middle, by age, so that all others were moved.
+const CUT: Mended = Mended {
+    missing: 1_024,
+    packed: 1,
+    moved: 1_022,
+    ..SOUND
+};
 
 const fn job(name: &'static str, dump: fn() -> Dump, work: Work) -> Job {
     Job { name, dump, work }
@@ -66,13 +103,15 @@ pub fn run(rounds: usize) {
 fn time(job: &Job, rounds: usize) {
     let dump = (job.dump)();
     let mut competitors = competitors(job, &dump, RECORDED);
-    // One check is compared with reading the bytes, too.
-    if job.name == "check" {
-        competitors.extend(READERS.map(|entry| reader(entry, &dump)));
+    // One check is compared with reading the bytes, too, and one mending with copying them.
+    match job.name {
+        "check" => competitors.extend(READERS.map(|entry| reader(entry, &dump))),
+        "mend" => competitors.push(reader(COPIER, &dump)),
+        _ => {}
     }
     let (calls, parts, rounds) = match job.work {
         Work::List(_) => (1, 1, rounds),
-        Work::Check(_) | Work::Find(..) => (20, 1, rounds),
+        Work::Check(_) | Work::Find(..) | Work::Mend(_) => (20, 1, rounds),
         // A million events take as long as a hundred listings.
         Work::Record => (1, RECORDED as usize, (rounds / 20).max(3)),
     };
@@ -88,6 +127,7 @@ pub fn competitors<'a>(job: &Job, dump: &'a Dump, recorded: u32) -> Vec<Competit
         Work::Record => RECORDERS
             .map(|entry| recorder(entry, dump, recorded))
             .into(),
+        Work::Mend(_) => MENDERS.map(|entry| mender(entry, dump)).into(),
     }
 }
 
@@ -121,6 +161,12 @@ fn recorder<'a>(
 ) -> Competitor<'a> {
     let mut buffer = dump.bytes.clone();
     Competitor::new(name, move || record(&mut buffer, events) as u64)
+}
+
+fn mender<'a>((name, mend): (&'static str, Mender), dump: &'a Dump) -> Competitor<'a> {
+    let mut copy = vec![0; LARGEST];
+    let call = move || mend(opaque(&dump.bytes), &mut copy).unwrap().moved as u64;
+    Competitor::new(name, call)
 }
 
 fn reader<'a>((name, read): (&'static str, Reader), dump: &'a Dump) -> Competitor<'a> {

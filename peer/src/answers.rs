@@ -8,6 +8,7 @@ use crate::find_name::find_name;
 use crate::format::format;
 use crate::line::line;
 use crate::listing::listing;
+use crate::mend::{mend, Mended};
 use crate::record::record;
 use crate::refusal::Refusal;
 use crate::register::register;
@@ -29,6 +30,12 @@ pub struct EventAnswer {
 }
 
 #[derive(Clone, Debug, PartialEq, Eq)]
+pub struct MendAnswer {
+    pub mended: Mended,
+    pub copy: Vec<u8>,
+}
+
+#[derive(Clone, Debug, PartialEq, Eq)]
 pub enum Reply {
     Check(Result<Summary, Refusal>),
     Event(Result<EventAnswer, Refusal>),
@@ -44,6 +51,11 @@ pub enum Reply {
         digest: u64,
     },
     Bytes(Vec<u8>),
+    /// Changed counts the output bytes past the copy that are not as before.
+    Mend {
+        result: Result<MendAnswer, Refusal>,
+        changed: usize,
+    },
 }
 
 impl Reply {
@@ -55,6 +67,7 @@ impl Reply {
             Reply::Text { result, .. } => result.as_ref().err().copied(),
             Reply::Written { result, .. } => result.as_ref().err().copied(),
             Reply::Bytes(_) => None,
+            Reply::Mend { result, .. } => result.as_ref().err().copied(),
         }
     }
 }
@@ -77,15 +90,14 @@ pub fn answer(buffer: &mut [u8], call: &Call) -> Reply {
             reading,
             position,
             room,
-        } => with_output(*room, |output| line(buffer, reading, *position, output)),
-        Call::Listing { reading, room } => {
-            with_output(*room, |output| listing(buffer, reading, output))
-        }
+        } => text(*room, |output| line(buffer, reading, *position, output)),
+        Call::Listing { reading, room } => text(*room, |output| listing(buffer, reading, output)),
         Call::Format(plan) => written(format(buffer, plan), buffer),
         Call::Record(words) => written(record(buffer, words), buffer),
         Call::Register(registration) => written(register(buffer, &registration.object()), buffer),
         Call::Remove { pointer } => written(remove(buffer, *pointer), buffer),
         Call::Bytes => Reply::Bytes(buffer.to_vec()),
+        Call::Mend { room } => mended(*room, buffer),
     }
 }
 
@@ -94,15 +106,32 @@ fn written(result: Result<usize, Refusal>, buffer: &[u8]) -> Reply {
     Reply::Written { result, digest }
 }
 
-fn with_output(room: u32, call: impl FnOnce(&mut [u8]) -> Result<usize, Refusal>) -> Reply {
+fn text(room: u32, call: impl FnOnce(&mut [u8]) -> Result<usize, Refusal>) -> Reply {
+    let (result, text, changed) = with_output(room, call, |&length| length);
+    let result = result.map(|_| text);
+    Reply::Text { result, changed }
+}
+
+fn mended(room: u32, dump: &[u8]) -> Reply {
+    let call = |output: &mut [u8]| mend(dump, output);
+    let (result, copy, changed) = with_output(room, call, |mended| mended.length);
+    let result = result.map(|mended| MendAnswer { mended, copy });
+    Reply::Mend { result, changed }
+}
+
+/// What the call gives, what it wrote, which has the length told, and how many bytes past that are not as before.
+fn with_output<T>(
+    room: u32,
+    call: impl FnOnce(&mut [u8]) -> Result<T, Refusal>,
+    length: impl FnOnce(&T) -> usize,
+) -> (Result<T, Refusal>, Vec<u8>, usize) {
     let room = room as usize;
     let mut output = vec![UNTOUCHED; room + NOT_LENT];
     let result = call(&mut output[..room]);
-    let length = result.unwrap_or(0);
-    let past = output.split_off(length);
+    let written = result.as_ref().map_or(0, length);
+    let past = output.split_off(written);
     let changed = past.iter().filter(|&&byte| byte != UNTOUCHED).count();
-    let result = result.map(|_| output);
-    Reply::Text { result, changed }
+    (result, output, changed)
 }
 
 fn event_answer(dump: &[u8], event: &Event) -> EventAnswer {

@@ -52,6 +52,9 @@ pub enum Call {
         pointer: u32,
     },
     Bytes,
+    Mend {
+        room: u32,
+    },
 }
 
 impl Call {
@@ -68,6 +71,7 @@ impl Call {
             Call::Register(_) => b'o',
             Call::Remove { .. } => b'x',
             Call::Bytes => b'b',
+            Call::Mend { .. } => b'm',
         }
     }
 
@@ -102,6 +106,7 @@ impl Call {
             Call::Format(plan) => plan_bytes(plan),
             Call::Record(words) => word_bytes(words),
             Call::Register(registration) => registration_bytes(registration),
+            Call::Mend { room } => word_bytes(&[*room]),
         }
     }
 }

@@ -1,4 +1,4 @@
-//! Reads and writes ThreadX trace buffers as document 01 says, with request A1 of document 02: a second, independent writing of the rules.
+//! Reads and writes ThreadX trace buffers as document 01 says, with requests A1 and A2 of document 02: a second, independent writing of the rules.
 #![forbid(unsafe_code)]
 
 pub mod answers;
@@ -15,6 +15,7 @@ pub mod layout;
 pub mod limits;
 pub mod line;
 pub mod listing;
+pub mod mend;
 pub mod number;
 pub mod order;
 pub mod print;
@@ -34,6 +35,7 @@ pub use format::{format, Plan};
 pub use header::Header;
 pub use line::line;
 pub use listing::listing;
+pub use mend::{mend, Mended};
 pub use number::number;
 pub use order::ByteOrder;
 pub use reading::Reading;

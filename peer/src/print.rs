@@ -1,7 +1,7 @@
 //! Prints a case and its replies in the form that the answers are compared in.
 
-use crate::answers::{EventAnswer, FoundName, Reply};
-use crate::check::Summary;
+use crate::answers::{EventAnswer, FoundName, MendAnswer, Reply};
+use crate::check::{check, Summary};
 use crate::digest::digest;
 use crate::order::ByteOrder;
 use crate::refusal::Refusal;
@@ -30,11 +30,19 @@ pub fn print_reply(reply: &Reply, printed: &mut Vec<u8>) {
             digest,
         } => push_text(printed, &format!("done {} {}\n", value, digest)),
         Reply::Bytes(bytes) => print_bytes(bytes, printed),
+        Reply::Mend {
+            result: Ok(answer),
+            changed,
+        } => print_mended(answer, *changed, printed),
         Reply::Check(Err(refusal)) | Reply::Event(Err(refusal)) => {
             print_refusal(refusal, None, printed)
         }
         Reply::FindName(Err(refusal)) => print_refusal(refusal, Some(0), printed),
         Reply::Text {
+            result: Err(refusal),
+            changed,
+        }
+        | Reply::Mend {
             result: Err(refusal),
             changed,
         } => print_refusal(refusal, Some(*changed as u64), printed),
@@ -109,4 +117,14 @@ fn print_bytes(bytes: &[u8], printed: &mut Vec<u8>) {
         }
     }
     printed.push(b'\n');
+}
+
+/// The length, the six counts, the changed bytes past the copy and the copy's digest; then the check of the copy.
+fn print_mended(answer: &MendAnswer, changed: usize, printed: &mut Vec<u8>) {
+    push_text(printed, &format!("{}", answer.mended.length));
+    for count in answer.mended.counts() {
+        push_text(printed, &format!(" {}", count));
+    }
+    push_text(printed, &format!(" {} {}\n", changed, digest(&answer.copy)));
+    print_reply(&Reply::Check(check(&answer.copy)), printed);
 }

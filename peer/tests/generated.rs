@@ -17,7 +17,7 @@ fn a_refusal_alters_nothing() {
             if reply.refusal().is_some() {
                 assert_eq!(buffer, before, "{}", case.title);
             }
-            if let Reply::Text { changed, .. } = reply {
+            if let Reply::Text { changed, .. } | Reply::Mend { changed, .. } = reply {
                 assert_eq!(changed, 0, "{}", case.title);
             }
         }

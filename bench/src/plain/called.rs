@@ -1,6 +1,7 @@
 //! The same behind calls that are not inlined, as the library's are.
 
-use super::{check, find, record, Refusal};
+use super::{check, find, mend, record, Refusal};
+use lepsaino::Mended;
 
 #[inline(never)]
 pub fn check(dump: &[u8]) -> Result<usize, Refusal> {
@@ -15,4 +16,9 @@ pub fn find_name(dump: &[u8], pointer: u32) -> Result<Option<&[u8]>, Refusal> {
 #[inline(never)]
 pub fn record(buffer: &mut [u8], words: &[u32; 8]) -> Result<usize, Refusal> {
     record::record(buffer, words)
+}
+
+#[inline(never)]
+pub fn mend(dump: &[u8], copy: &mut [u8]) -> Result<Mended, Refusal> {
+    mend::mend(dump, copy)
 }

@@ -1,4 +1,4 @@
-//! What the baselines in Rust share: a reader and a recorder as a careful user would write them by hand.
+//! What the baselines in Rust share: a reader, a recorder and a mender as a careful user would write them by hand.
 //! The ways in are always inlined, however many callers there are; loops are left to the compiler, which does better with them.
 
 pub mod called;
@@ -6,6 +6,7 @@ pub mod check;
 pub mod events;
 pub mod find;
 pub mod layout;
+pub mod mend;
 pub mod names;
 pub mod record;
 pub mod words;

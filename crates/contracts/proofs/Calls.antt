@@ -14,4 +14,5 @@ calls = record {
   «record» = λ κs a p. p .allowed;
   register = λ κs a p. p .allowed;
   remove = λ κs a p. p .allowed;
+  mend = λ κs a p. p .allowed;
 }

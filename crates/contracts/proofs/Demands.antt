@@ -40,6 +40,10 @@ calls-refuse = record {
   «record» = λ κs a p. changed-writes (recording (a .1 .0)) _ _ _ (demands .first .recording _ _) (calls .«record» κs a p);
   register = λ κs a p. changed-writes (registering (a .1 .0) (now (a .1 .1 .0))) _ _ _ (demands .first .registering _ _ _) (calls .register κs a p);
   remove = λ κs a p. changed-writes (removing (a .1 .0)) _ _ _ (demands .first .removing _ _) (calls .remove κs a p);
+  mend = λ κs a p.
+      let did = calls .mend κs a p in
+      let keeps = demands .first .mending (now (a .0)) (now (a .1 .0)) in
+      (rw (did .0) (keeps .0), λ some. did .1 ∙ keeps .1 (rw (did .0) at some));
 }
 
 -- the front of an output, where a printer has written

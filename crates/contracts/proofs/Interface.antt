@@ -14,8 +14,9 @@ use Rattle.events.specs.Events.{eventNumbers, eventOf, shownTold, slotNumbers}
 use Rattle.events.specs.Listing.{listedBy, listedTold}
 use Rattle.events.specs.declared.Shown.{Shown}
 use Rattle.events.specs.declared.Shown.the-variants as shown
-use Rattle.lepsaino_c.specs.Answers.{GaveNumbers, checkAnswer, eventAnswer, formatGiven, listedAnswer, nameAnswer, orderGiven, outcomeAnswer}
+use Rattle.lepsaino_c.specs.Answers.{GaveNumbers, answerOf, checkAnswer, eventAnswer, formatGiven, listedAnswer, mendAnswer, nameAnswer, orderGiven, outcomeAnswer}
 use Rattle.lepsaino_c.specs.declared.answers.Answer.{Answer}
+use Rattle.mending.specs.Mending.{mendOf, mendedTold}
 use Rattle.rows.specs.Rows.{Accepted, Row, firstBroken}
 use Rattle.trace.specs.Check.{checkOf, checkedTold, orderNumber}
 use Rattle.trace.specs.Names.{findName, foundTold, nameFound, nameNumbers}
@@ -28,7 +29,7 @@ use Rattle.words.specs.declared.Order.{Order}
 use Rattle.words.specs.declared.Order.the-variants.{Big, Little}
 use Rattle.writing.specs.Writing.{Change, formatting, left, outcomeTold, recording, registering, removing, said}
 use Rattle.contracts.proofs.Public.{equation, leaves}
-use Rattle.contracts.specs.Interface.{Interface, InterfaceRefuses, NamesWithin, Structs, TellsAndKeeps, ZeroAccepts}
+use Rattle.contracts.specs.Interface.{Interface, InterfaceGives, InterfaceRefuses, NamesWithin, Structs, TellsAndKeeps, ZeroAccepts}
 
 pub interface : Interface
 interface = record {
@@ -42,20 +43,35 @@ interface = record {
   «lepsaino_record» = leaves (λ κs a x e p. p) (λ κs a v w e i. (e i, v .1));
   «lepsaino_register» = leaves (λ κs a x e p. p) (λ κs a v w e i. (e i, v .1));
   «lepsaino_remove» = leaves (λ κs a x e p. p) (λ κs a v w e i. (e i, v .1));
+  «lepsaino_mend» = leaves (λ κs a x e p. p) (λ κs a v w e i. (tt, (e i, tt)));
+}
+
+pub interface-gives : InterfaceGives
+interface-gives = record {
+  check = λ κs a p. p .allowed;
+  event = λ κs a p. p .allowed;
+  «find_name» = λ κs a p. p .allowed;
+  line = λ κs a p. (_, p .allowed .answered, p .allowed .gave);
+  listing = λ κs a p. (_, p .allowed .answered, p .allowed .gave);
+  format = λ κs a p. (_, p .allowed .0, (refl, p .allowed .1));
+  «record» = λ κs a p. (_, p .allowed .0, (refl, p .allowed .1));
+  register = λ κs a p. (_, p .allowed .0, (refl, p .allowed .1));
+  remove = λ κs a p. (_, p .allowed .0, (refl, p .allowed .1));
+  mend = λ κs a p. (_, p .allowed .0, (refl, p .allowed .1));
 }
 
 changed-tells : (change : List ℕ → Change) (old new : List ℕ) (x : Answer) → Writes (change old) old → x ≡ outcomeAnswer (said (change old)) → new ≡ left (change old) old
-    → TellsAndKeeps (change old .rows) old new x
+    → TellsAndKeeps answerOf (change old .rows) old new x
 unfolding outcomeAnswer
 changed-tells change old new x writes told kept = (outcomeTold (said (change old)), told, (writes .0, λ some. kept ∙ writes .1 some))
 
 printed-tells : (rows : List Row) (text old new : List ℕ) (x : Answer) → RefusesAndKeeps rows old new (listedTold (listedBy (firstBroken rows) (length text)))
-    → GaveNumbers rows text old new x → TellsAndKeeps rows old new x
+    → GaveNumbers rows text old new x → TellsAndKeeps answerOf rows old new x
 unfolding listedAnswer
 printed-tells rows text old new x keeps gave = (listedTold (listedBy (firstBroken rows) (length text)), gave .answered, keeps)
 
 pub interface-refuses : InterfaceRefuses
-unfolding checkAnswer eventAnswer nameAnswer
+unfolding checkAnswer eventAnswer nameAnswer mendAnswer
 interface-refuses = record {
   check = λ κs a p. (checkedTold (checkOf (now (a .0))), p .allowed, first-demand .checking _);
   event = λ κs a p. (shownTold (eventOf (now (a .0)) (a .1 .0)), p .allowed, first-demand .event _ _);
@@ -66,6 +82,9 @@ interface-refuses = record {
   «record» = λ κs a p. changed-tells (recording (a .1 .0)) _ _ _ (first-demand .recording _ _) (p .allowed .0) (p .allowed .1);
   register = λ κs a p. changed-tells (registering (a .1 .0) (now (a .1 .1 .0))) _ _ _ (first-demand .registering _ _ _) (p .allowed .0) (p .allowed .1);
   remove = λ κs a p. changed-tells (removing (a .1 .0)) _ _ _ (first-demand .removing _ _) (p .allowed .0) (p .allowed .1);
+  mend = λ κs a p.
+      let keeps = first-demand .mending (now (a .0)) (now (a .1 .0)) in
+      (mendedTold (mendOf (now (a .0)) (length (now (a .1 .0)))), p .allowed .0, (keeps .0, λ some. p .allowed .1 ∙ keeps .1 some));
 }
 
 order-back : (o : Order) → orderGiven (orderNumber o) ≡ o
@@ -74,7 +93,8 @@ order-back Big = refl
 order-back Little = refl
 
 pub structs : Structs
-structs = record { answer = λ f. refl; name = λ f. refl; check = λ f. refl; event = λ f. refl; order = order-back }
+unfolding mendAnswer mendedTold
+structs = record { answer = λ f. refl; name = λ f. refl; check = λ f. refl; event = λ f. refl; mend = λ f. refl; copied = λ n r. refl; order = order-back }
 
 -- rows of which none is broken have passed
 all-passed : (rows : List Row) → Each Unbroken rows → Accepted rows
@@ -83,7 +103,7 @@ all-passed [] kept = refl
 all-passed (r ∷ rows) kept = rw (kept .0) (all-passed rows (kept .1))
 
 pub zero-accepts : ZeroAccepts
-unfolding checkAnswer eventAnswer nameAnswer listedAnswer outcomeAnswer
+unfolding checkAnswer eventAnswer nameAnswer listedAnswer outcomeAnswer mendAnswer
 zero-accepts = record {
   check = λ s none. all-passed _ (first-demand .checking s .zero none .2);
   event = λ s position none. all-passed _ (first-demand .event s position .zero none .2);
@@ -96,6 +116,7 @@ zero-accepts = record {
   «record» = λ slot s none. all-passed _ (first-demand .recording slot s .0 .zero none .2);
   register = λ object name s none. all-passed _ (first-demand .registering object name s .0 .zero none .2);
   remove = λ pointer s none. all-passed _ (first-demand .removing pointer s .0 .zero none .2);
+  mend = λ s old none. all-passed _ (first-demand .mending s old .0 .zero none .2);
 }
 
 -- where a name is told, or none, its place and length are those of the name

@@ -69,6 +69,8 @@ library = record {
     row2 = equation (λ κs a v w. refl);
     row4 = equation (λ κs a v w. refl);
     row5 = equation (λ κs a v w. refl);
+    «has_bad_current» = equation (λ κs a v w. refl);
+    «layout_verdict» = equation (λ κs a v w. refl);
     «header_verdict» = equation (λ κs a v w. refl);
   };
   dump = record {
@@ -76,6 +78,8 @@ library = record {
     «registry_verdict» = equation (λ κs a v w. refl);
     «is_full» = equation (λ κs a v w. refl);
     «allowed_type» = equation (λ κs a v w. refl);
+    «is_bad_type» = equation (λ κs a v w. refl);
+    «is_out_of_turn» = equation (λ κs a v w. refl);
     «is_thread» = equation (λ κs a v w. refl);
     «lowest_entry» = equation (λ κs a v w. refl);
   };
@@ -134,6 +138,9 @@ library = record {
   };
   formatter = record {
     format = leaves (λ κs a x e p. p) (λ κs a v w e i. (e i, v .1));
+  };
+  mender = record {
+    mend = leaves (λ κs a x e p. p) (λ κs a v w e i. (tt, (e i, tt)));
   };
   console = record {
     «word_at» = equation (λ κs a v w. refl);

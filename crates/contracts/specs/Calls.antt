@@ -1,4 +1,4 @@
--- The calls of document 01: whatever a contract allows is the answer of which the demands speak.
+-- The calls of document 01, and mending: whatever a contract allows is the answer of which the demands speak.
 use Prim.Native.Nat.{ℕ}
 use mathlib.Core.List.{List}
 use mathlib.Core.Path.{_≡_}
@@ -11,8 +11,13 @@ use Rattle.events.specs.Listing.{Gave, lineAt, lineRows, listingRows, listingTe
 use Rattle.finder.proofs as finder
 use Rattle.formatter.proofs as formatter
 use Rattle.listing.proofs as listing
+use Rattle.mender.proofs as mender
+use Rattle.mending.specs.Mending.{copyOf, mendOf, mendingRows}
+use Rattle.mending.specs.declared.Mended as mended
 use Rattle.recorder.proofs as recorder
 use Rattle.registrar.proofs as registrar
+use Rattle.rows.specs.Lent.{leftIn}
+use Rattle.rows.specs.Rows.{firstBroken}
 use Rattle.trace.specs.Check.{checkOf}
 use Rattle.trace.specs.Layout.{headerOf}
 use Rattle.trace.specs.Names.{findName, nameFound, nameLength, nameStart}
@@ -29,6 +34,10 @@ Allows T learnt only = (κs : Lives T) (a : Arguments T κs) (p : Answer T learn
 -- what a call that writes gives and leaves
 abbrev pub Changed : (List ℕ → Change) → List ℕ → List ℕ → Outcome → Type 0
 Changed change old new x = (x ≡ said (change old)) × (new ≡ left (change old) old)
+
+-- what mending gives, and leaves in the second buffer
+abbrev pub Mended : List ℕ → List ℕ → List ℕ → mended.Mended → Type 0
+Mended s old new x = (x ≡ mendOf s (length old)) × (new ≡ leftIn old (firstBroken (mendingRows s (headerOf s) (length old))) (copyOf s (headerOf s)))
 
 pub record Calls : Type 0 where
   -- check(dump)
@@ -72,3 +81,7 @@ pub record Calls : Type 0 where
   pub remove : Allows registrar.remove.ended registrar.remove.Reads.Learnt (λ κs a x last.
       let old = now (a .0) in let pointer = a .1 .0 in let new = last .0 in
       Changed (removing pointer) old new x)
+  -- mend(dump, copy)
+  pub mend : Allows mender.mend.ended mender.mend.Reads.Learnt (λ κs a x last.
+      let s = now (a .0) in let old = now (a .1 .0) in let new = last .1 .0 in
+      Mended s old new x)

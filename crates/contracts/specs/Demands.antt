@@ -1,4 +1,4 @@
--- The first demand of the nine calls of document 01, and the last clause of the second of whatever prints, of the functions themselves: whatever answers their contracts allow.
+-- The first demand of the nine calls of document 01 and of mending, and the last clause of the second of whatever prints, of the functions themselves: whatever answers their contracts allow.
 use Prim.Native.Nat.{ℕ, _^_, _≤_, _<_}
 use mathlib.Core.List.{[], _∷_, map}
 use mathlib.Core.Path.{_≡_}
@@ -15,6 +15,8 @@ use Rattle.formatter.proofs as formatter
 use Rattle.lepsaino_c.proofs as interface
 use Rattle.lines.proofs as lines
 use Rattle.listing.proofs as listing
+use Rattle.mender.proofs as mender
+use Rattle.mending.specs.Mending.{mendedTold, mendingRows}
 use Rattle.names.proofs as names
 use Rattle.numbers.proofs as numbers
 use Rattle.recorder.proofs as recorder
@@ -67,6 +69,10 @@ pub record CallsRefuse : Type 0 where
   pub remove : Allows registrar.remove.ended registrar.remove.Reads.Learnt (λ κs a x last.
       let old = now (a .0) in let pointer = a .1 .0 in let new = last .0 in
       RefusesAndKeeps (removing pointer old .rows) old new (outcomeTold x))
+  -- mend(dump, copy)
+  pub mend : Allows mender.mend.ended mender.mend.Reads.Learnt (λ κs a x last.
+      let s = now (a .0) in let old = now (a .1 .0) in let new = last .1 .0 in
+      RefusesAndKeeps (mendingRows s (headerOf s) (length old)) old new (mendedTold x))
 
 -- of the second demand its last clause: in what leaves, the JSON numbers are the digits of the numbers up to two to the fifty-third, in their order.
 -- (The rest of it is of the definitions, and `calls` says that these are what the contracts allow.)

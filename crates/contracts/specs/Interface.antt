@@ -6,11 +6,14 @@ use denote.Ref.{now}
 use lib.ListN.{length}
 use Rattle.demands.specs.Refusals.{Refuses, RefusesAndKeeps}
 use Rattle.events.specs.Events.{eventOf}
-use Rattle.events.specs.Listing.{lineAt, lineRows, listingRows, listingText}
+use Rattle.events.specs.Listing.{Gave, lineAt, lineRows, listingRows, listingText}
 use Rattle.events.specs.declared.Reading.{Reading}
 use Rattle.lepsaino_c.proofs as calls
-use Rattle.lepsaino_c.specs.Answers.{GaveNumbers, answerOf, checkAnswer, checkAnswerOf, eventAnswer, eventAnswerOf, formatGiven, nameAnswer, nameAnswerOf, orderGiven, outcomeAnswer}
+use Rattle.lepsaino_c.specs.Answers.{GaveNumbers, answerOf, checkAnswer, checkAnswerOf, eventAnswer, eventAnswerOf, formatGiven, listedAnswer, mendAnswer, mendAnswerOf, nameAnswer, nameAnswerOf, orderGiven, outcomeAnswer}
 use Rattle.lepsaino_c.specs.declared.answers.Answer.{Answer}
+use Rattle.mending.specs.Mending.{mendOf, mendingRows}
+use Rattle.mending.specs.declared.Mended.the-variants.{Copied}
+use Rattle.mending.specs.declared.Repairs.{Repairs}
 use Rattle.rows.specs.Rows.{Accepted, Row}
 use Rattle.rows.specs.Told.{Told, toldRefusal}
 use Rattle.rows.specs.declared.Refusal.{Refusal}
@@ -23,7 +26,7 @@ use Rattle.words.specs.declared.Order.{Order}
 use Rattle.writing.specs.Writing.{formatting, recording, registering, removing, said}
 use Rattle.writing.specs.declared.Format.{Format}
 use Rattle.writing.specs.declared.Object.{Object}
-use Rattle.contracts.specs.Calls.{Allows}
+use Rattle.contracts.specs.Calls.{Allows, Changed, Mended}
 use Rattle.contracts.specs.Settled.{Settled}
 
 pub record Interface : Type 0 where
@@ -37,14 +40,41 @@ pub record Interface : Type 0 where
   pub «lepsaino_record» : Settled calls.«lepsaino_record».ended calls.«lepsaino_record».Reads.Asked calls.«lepsaino_record».Reads.Learnt
   pub «lepsaino_register» : Settled calls.«lepsaino_register».ended calls.«lepsaino_register».Reads.Asked calls.«lepsaino_register».Reads.Learnt
   pub «lepsaino_remove» : Settled calls.«lepsaino_remove».ended calls.«lepsaino_remove».Reads.Asked calls.«lepsaino_remove».Reads.Learnt
+  pub «lepsaino_mend» : Settled calls.«lepsaino_mend».ended calls.«lepsaino_mend».Reads.Asked calls.«lepsaino_mend».Reads.Learnt
+
+-- the struct of an answer that a call of the library may give
+abbrev pub InNumbers : {A B : Type 0} → (A → B) → (A → Type 0) → B → Type 0
+InNumbers struct gives x = (answer : _) × (x ≡ struct answer) × gives answer
+
+-- whatever the contract of a call for C allows is what the library's own call gives, in numbers, and what that call leaves
+pub record InterfaceGives : Type 0 where
+  pub check : Allows calls.«lepsaino_check».ended calls.«lepsaino_check».Reads.Learnt (λ κs a x last. x ≡ checkAnswer (checkOf (now (a .0))))
+  pub event : Allows calls.«lepsaino_event».ended calls.«lepsaino_event».Reads.Learnt (λ κs a x last. x ≡ eventAnswer (eventOf (now (a .0)) (a .1 .0)))
+  pub «find_name» : Allows calls.«lepsaino_find_name».ended calls.«lepsaino_find_name».Reads.Learnt (λ κs a x last. x ≡ nameAnswer (findName (now (a .0)) (a .1 .0)))
+  pub line : Allows calls.«lepsaino_line».ended calls.«lepsaino_line».Reads.Learnt (λ κs a x last.
+      let s = now (a .0) in let reading = a .1 .0 in let position = a .1 .1 .0 in let old = now (a .1 .1 .1 .0) in let new = last .1 .1 .1 .0 in
+      InNumbers listedAnswer (Gave (lineRows s (headerOf s) reading position (length old)) (lineAt s (headerOf s) reading position) old new) x)
+  pub listing : Allows calls.«lepsaino_listing».ended calls.«lepsaino_listing».Reads.Learnt (λ κs a x last.
+      let s = now (a .0) in let reading = a .1 .0 in let old = now (a .1 .1 .0) in let new = last .1 .1 .0 in
+      InNumbers listedAnswer (Gave (listingRows s (headerOf s) reading (length old)) (listingText s (headerOf s) reading) old new) x)
+  pub format : Allows calls.«lepsaino_format».ended calls.«lepsaino_format».Reads.Learnt (λ κs a x last.
+      InNumbers outcomeAnswer (Changed (formatting (formatGiven (a .1 .0))) (now (a .0)) (last .0)) x)
+  pub «record» : Allows calls.«lepsaino_record».ended calls.«lepsaino_record».Reads.Learnt (λ κs a x last.
+      InNumbers outcomeAnswer (Changed (recording (a .1 .0)) (now (a .0)) (last .0)) x)
+  pub register : Allows calls.«lepsaino_register».ended calls.«lepsaino_register».Reads.Learnt (λ κs a x last.
+      InNumbers outcomeAnswer (Changed (registering (a .1 .0) (now (a .1 .1 .0))) (now (a .0)) (last .0)) x)
+  pub remove : Allows calls.«lepsaino_remove».ended calls.«lepsaino_remove».Reads.Learnt (λ κs a x last.
+      InNumbers outcomeAnswer (Changed (removing (a .1 .0)) (now (a .0)) (last .0)) x)
+  pub mend : Allows calls.«lepsaino_mend».ended calls.«lepsaino_mend».Reads.Learnt (λ κs a x last.
+      InNumbers mendAnswer (Mended (now (a .0)) (now (a .1 .0)) (last .1 .0)) x)
 
 -- a struct that is made of what was told: a refusal exactly by the first broken row of the call's order
 abbrev pub Tells : {A : Type 0} → (Told → A) → List Row → A → Type 0
 Tells struct rows x = (told : Told) × (x ≡ struct told) × Refuses rows told
 
 -- and then every lent byte is as before
-abbrev pub TellsAndKeeps : List Row → List ℕ → List ℕ → Answer → Type 0
-TellsAndKeeps rows old new x = (told : Told) × (x ≡ answerOf told) × RefusesAndKeeps rows old new told
+abbrev pub TellsAndKeeps : {A : Type 0} → (Told → A) → List Row → List ℕ → List ℕ → A → Type 0
+TellsAndKeeps struct rows old new x = (told : Told) × (x ≡ struct told) × RefusesAndKeeps rows old new told
 
 -- whatever answer the contract of a call for C allows
 pub record InterfaceRefuses : Type 0 where
@@ -59,22 +89,25 @@ pub record InterfaceRefuses : Type 0 where
       Tells nameAnswerOf (registryRows s (headerOf s)) x)
   pub line : Allows calls.«lepsaino_line».ended calls.«lepsaino_line».Reads.Learnt (λ κs a x last.
       let s = now (a .0) in let reading = a .1 .0 in let position = a .1 .1 .0 in let old = now (a .1 .1 .1 .0) in let new = last .1 .1 .1 .0 in
-      TellsAndKeeps (lineRows s (headerOf s) reading position (length old)) old new x)
+      TellsAndKeeps answerOf (lineRows s (headerOf s) reading position (length old)) old new x)
   pub listing : Allows calls.«lepsaino_listing».ended calls.«lepsaino_listing».Reads.Learnt (λ κs a x last.
       let s = now (a .0) in let reading = a .1 .0 in let old = now (a .1 .1 .0) in let new = last .1 .1 .0 in
-      TellsAndKeeps (listingRows s (headerOf s) reading (length old)) old new x)
+      TellsAndKeeps answerOf (listingRows s (headerOf s) reading (length old)) old new x)
   pub format : Allows calls.«lepsaino_format».ended calls.«lepsaino_format».Reads.Learnt (λ κs a x last.
       let old = now (a .0) in let new = last .0 in
-      TellsAndKeeps (formatting (formatGiven (a .1 .0)) old .rows) old new x)
+      TellsAndKeeps answerOf (formatting (formatGiven (a .1 .0)) old .rows) old new x)
   pub «record» : Allows calls.«lepsaino_record».ended calls.«lepsaino_record».Reads.Learnt (λ κs a x last.
       let old = now (a .0) in let slot = a .1 .0 in let new = last .0 in
-      TellsAndKeeps (recording slot old .rows) old new x)
+      TellsAndKeeps answerOf (recording slot old .rows) old new x)
   pub register : Allows calls.«lepsaino_register».ended calls.«lepsaino_register».Reads.Learnt (λ κs a x last.
       let old = now (a .0) in let object = a .1 .0 in let name = now (a .1 .1 .0) in let new = last .0 in
-      TellsAndKeeps (registering object name old .rows) old new x)
+      TellsAndKeeps answerOf (registering object name old .rows) old new x)
   pub remove : Allows calls.«lepsaino_remove».ended calls.«lepsaino_remove».Reads.Learnt (λ κs a x last.
       let old = now (a .0) in let pointer = a .1 .0 in let new = last .0 in
-      TellsAndKeeps (removing pointer old .rows) old new x)
+      TellsAndKeeps answerOf (removing pointer old .rows) old new x)
+  pub mend : Allows calls.«lepsaino_mend».ended calls.«lepsaino_mend».Reads.Learnt (λ κs a x last.
+      let s = now (a .0) in let old = now (a .1 .0) in let new = last .1 .0 in
+      TellsAndKeeps mendAnswerOf (mendingRows s (headerOf s) (length old)) old new x)
 
 -- what the structs are in a refusal: the number, the place, and 0 for all else; and a byte order that was told is given back as that order
 pub record Structs : Type 0 where
@@ -109,6 +142,13 @@ pub record Structs : Type 0 where
         «name_at» = 0;
         «name_length» = 0;
       }
+  pub mend : (f : Refusal)
+      → mendAnswerOf (toldRefusal f)
+      ≡ record { refusal = f .number; place = f .place; length = 0; missing = 0; current = 0; types = 0; ids = 0; packed = 0; moved = 0 }
+  -- what mending gives stands under its own names
+  pub copied : (n : ℕ) (r : Repairs)
+      → mendAnswer (Copied n r)
+      ≡ record { refusal = 0; place = 0; length = n; missing = r .missing; current = r .current; types = r .types; ids = r .ids; packed = r .packed; moved = r .moved }
   pub order : (o : Order) → orderGiven (orderNumber o) ≡ o
 
 -- where the number handed to a C caller is 0, no row of the call's order is broken
@@ -126,6 +166,7 @@ pub record ZeroAccepts : Type 0 where
   pub «record» : (slot : Slot) (s : List ℕ) → outcomeAnswer (said (recording slot s)) .refusal ≡ 0 → Accepted (recording slot s .rows)
   pub register : (object : Object) (name s : List ℕ) → outcomeAnswer (said (registering object name s)) .refusal ≡ 0 → Accepted (registering object name s .rows)
   pub remove : (pointer : ℕ) (s : List ℕ) → outcomeAnswer (said (removing pointer s)) .refusal ≡ 0 → Accepted (removing pointer s .rows)
+  pub mend : (s old : List ℕ) → mendAnswer (mendOf s (length old)) .refusal ≡ 0 → Accepted (mendingRows s (headerOf s) (length old))
 
 -- a name that a C caller is told of lies within the dump
 pub record NamesWithin : Type 0 where

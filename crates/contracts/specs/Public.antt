@@ -12,6 +12,7 @@ use Rattle.formatter.proofs as formatter
 use Rattle.header.proofs as header
 use Rattle.lines.proofs as lines
 use Rattle.listing.proofs as listing
+use Rattle.mender.proofs as mender
 use Rattle.names.proofs as names
 use Rattle.numbers.proofs as numbers
 use Rattle.output.proofs as output
@@ -51,6 +52,8 @@ pub record Header : Type 0 where
   pub row2 : Settled header.row2.ended header.row2.Reads.Asked header.row2.Reads.Learnt
   pub row4 : Settled header.row4.ended header.row4.Reads.Asked header.row4.Reads.Learnt
   pub row5 : Settled header.row5.ended header.row5.Reads.Asked header.row5.Reads.Learnt
+  pub «has_bad_current» : Settled header.«has_bad_current».ended header.«has_bad_current».Reads.Asked header.«has_bad_current».Reads.Learnt
+  pub «layout_verdict» : Settled header.«layout_verdict».ended header.«layout_verdict».Reads.Asked header.«layout_verdict».Reads.Learnt
   pub «header_verdict» : Settled header.«header_verdict».ended header.«header_verdict».Reads.Asked header.«header_verdict».Reads.Learnt
 
 pub record Dump : Type 0 where
@@ -58,6 +61,8 @@ pub record Dump : Type 0 where
   pub «registry_verdict» : Settled dump.«registry_verdict».ended dump.«registry_verdict».Reads.Asked dump.«registry_verdict».Reads.Learnt
   pub «is_full» : Settled dump.«is_full».ended dump.«is_full».Reads.Asked dump.«is_full».Reads.Learnt
   pub «allowed_type» : Settled dump.«allowed_type».ended dump.«allowed_type».Reads.Asked dump.«allowed_type».Reads.Learnt
+  pub «is_bad_type» : Settled dump.«is_bad_type».ended dump.«is_bad_type».Reads.Asked dump.«is_bad_type».Reads.Learnt
+  pub «is_out_of_turn» : Settled dump.«is_out_of_turn».ended dump.«is_out_of_turn».Reads.Asked dump.«is_out_of_turn».Reads.Learnt
   pub «is_thread» : Settled dump.«is_thread».ended dump.«is_thread».Reads.Asked dump.«is_thread».Reads.Learnt
   pub «lowest_entry» : Settled dump.«lowest_entry».ended dump.«lowest_entry».Reads.Asked dump.«lowest_entry».Reads.Learnt
 
@@ -117,6 +122,9 @@ pub record Registrar : Type 0 where
 pub record Formatter : Type 0 where
   pub format : Settled formatter.format.ended formatter.format.Reads.Asked formatter.format.Reads.Learnt
 
+pub record Mender : Type 0 where
+  pub mend : Settled mender.mend.ended mender.mend.Reads.Asked mender.mend.Reads.Learnt
+
 -- what the programs share, but for the functions that print or read a file: what a program prints is tested against stored text
 pub record Console : Type 0 where
   pub «word_at» : Settled console.«word_at».ended console.«word_at».Reads.Asked console.«word_at».Reads.Learnt
@@ -140,6 +148,7 @@ pub record Library : Type 0 where
   pub recorder : Recorder
   pub registrar : Registrar
   pub formatter : Formatter
+  pub mender : Mender
   pub console : Console
 
 -- the one exception: the contract of a part that is handed back allows every ghost name

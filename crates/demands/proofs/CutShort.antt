@@ -63,7 +63,7 @@ module _ (h : Header) (n : ℕ) where
       sym (then-rest (startRows h n) (row26 (registryEnd h) n ∷ row8 h ∷ []) (start-passed begun (there .0)))
       ∙ kept-too (row26 (registryEnd h) n) _ (le-ltb n (registryEnd h) (there .1)) (one-kept (row8 h) (rw (eq-eqb _ _ (there .2))))
 
-  layout-passed : Accepted (beforeEnds h n) → RegistryThere h n → RightBuffer h → Accepted (layoutRows h n)
+  pub layout-passed : Accepted (beforeEnds h n) → RegistryThere h n → RightBuffer h → Accepted (layoutRows h n)
   unfolding row9
   layout-passed begun there (some, right) =
       sym (then-rest thereRows (row9 h ∷ []) (there-passed begun there))

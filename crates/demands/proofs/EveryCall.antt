@@ -11,6 +11,9 @@ use Rattle.events.specs.declared.Event.{Event}
 use Rattle.events.specs.declared.Listed.{Listed}
 use Rattle.events.specs.declared.Listed.the-variants as listed
 use Rattle.events.specs.declared.Shown.the-variants as shown
+use Rattle.mending.specs.Mending.{mendOf, mendedBy}
+use Rattle.mending.specs.declared.Mended.the-variants as mended
+use Rattle.mending.specs.declared.Repairs.{Repairs}
 use Rattle.rows.proofs.Numbered.{front-refused}
 use Rattle.rows.proofs.Rows.{then-refused}
 use Rattle.rows.specs.Rows.{Row, firstBroken}
@@ -23,7 +26,7 @@ use Rattle.trace.specs.Check.{checkOf}
 use Rattle.trace.specs.Layout.{headerOf}
 use Rattle.trace.specs.Names.{findName, foundBy}
 use Rattle.trace.specs.Slots.{eventCount}
-use Rattle.trace.specs.Table.{dumpRows, headerRows, row11, row12, row13, row25}
+use Rattle.trace.specs.Table.{dumpRows, headerRows, layoutRows, row11, row12, row13, row25}
 use Rattle.trace.specs.declared.Found.the-variants as found
 use Rattle.trace.specs.declared.Name.{Name}
 use Rattle.writing.proofs.Opened.{open-writing-rows}
@@ -79,13 +82,17 @@ outcome-refused : (v : Verdict) (n : ℕ) (f : Refusal) → outcomeBy v n ≡ ou
 outcome-refused (Refused g) n f e = cc
 outcome-refused Passed n f e = cc
 
+mended-refused : (v : Verdict) (n : ℕ) (r : Repairs) (f : Refusal) → mendedBy v n r ≡ mended.Refused f → v ≡ Refused f
+mended-refused (Refused g) n r f e = cc
+mended-refused Passed n r f e = cc
+
 -- no row but those of 1 to 10 has the number 26
 module _ (s : List ℕ) (k : ℕ) where
   abbrev rows : List Row
   rows = headerRows (headerOf s) (length s)
 
   pub cut-by-header : SomeRefused s (givenAt 26 k) → firstBroken rows ≡ Refused (givenAt 26 k)
-  unfolding open-rows open-writing-rows findName eventOf recording registering removing
+  unfolding open-rows open-writing-rows findName eventOf recording registering removing mendOf
   cut-by-header (every.by-check e) = front-refused rows _ (givenAt 26 k) (check-refused s _ e) refl
   cut-by-header (every.by-name pointer e) = front-refused rows _ (givenAt 26 k) (found-refused _ _ _ e) refl
   cut-by-header (every.by-event position e) = front-refused rows _ (givenAt 26 k) (shown-refused _ _ _ e) refl
@@ -94,3 +101,6 @@ module _ (s : List ℕ) (k : ℕ) where
   cut-by-header (every.by-recording slot e) = front-refused rows _ (givenAt 26 k) (outcome-refused _ _ _ e) refl
   cut-by-header (every.by-registering object name e) = front-refused rows _ (givenAt 26 k) (outcome-refused _ _ _ e) refl
   cut-by-header (every.by-removing pointer e) = front-refused rows _ (givenAt 26 k) (outcome-refused _ _ _ e) refl
+  cut-by-header (every.by-mending room e) =
+      let layout = layoutRows (headerOf s) (length s) in
+      sym (then-refused layout _ (givenAt 26 k) (front-refused layout _ (givenAt 26 k) (mended-refused _ _ _ _ e) refl))

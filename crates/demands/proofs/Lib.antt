@@ -13,6 +13,7 @@ pub mod JsonNumbers
 mod JsonTexts
 pub mod Layouts
 pub mod Masks
+pub mod Mending
 pub mod Names
 pub mod NotRead
 pub mod Offsets

@@ -6,23 +6,27 @@ use mathlib.Core.Path.{_≡_, refl, sym, ap, _∙_}
 use native.Mathlib.Omega.{arith}
 use lib.Dec.{ltb}
 use lib.ListN.{length}
-use borrow.Author.Tests.{ltb-true}
+use borrow.Author.Tests.{le-ltb, lt-ltb, ltb-true}
 use Rattle.events.specs.Events.{eventAt, eventNumbers, eventOf, shownBy, shownTold, slotNumbers}
 use Rattle.events.specs.Listing.{Gave, listedBy, listedTold}
 use Rattle.events.specs.declared.Event.{Event}
 use Rattle.events.specs.declared.Listed.{Listed}
-use Rattle.rows.specs.Rows.{Row, firstBroken, refusal}
+use Rattle.mending.specs.Mending.{copyOf, mendOf, mendedBy, mendedTold, mendingRows, repairNumbers, repairsOf}
+use Rattle.mending.specs.declared.Repairs.{Repairs}
+use Rattle.rows.proofs.Rows.{one-kept, then-broken, then-refused, then-rest}
+use Rattle.rows.specs.Lent.{leftIn}
+use Rattle.rows.specs.Rows.{Accepted, Row, firstBroken, refusal}
 use Rattle.rows.specs.Told.{Told, toldRefusal, toldValues}
 use Rattle.rows.specs.declared.Refusal.{Refusal}
 use Rattle.rows.specs.declared.Verdict.{Verdict}
 use Rattle.rows.specs.declared.Verdict.the-variants.{Passed, Refused}
 use Rattle.trace.proofs.Opened.{open-rows}
 use Rattle.trace.specs.Check.{checkOf, checkedBy, checkedTold, headerNumbers}
-use Rattle.trace.specs.Layout.{headerOf}
+use Rattle.trace.specs.Layout.{bufferEnd, headerOf}
 use Rattle.trace.specs.Names.{findName, foundBy, foundTold, nameNumbers, nameOf}
 use Rattle.trace.specs.Ring.{numbersFrom}
 use Rattle.trace.specs.Slots.{eventCount}
-use Rattle.trace.specs.Table.{dumpRows, eventRows, registryRows}
+use Rattle.trace.specs.Table.{dumpRows, eventRows, layoutRows, registryRows, row16}
 use Rattle.trace.specs.declared.Header.{Header}
 use Rattle.trace.specs.declared.Name.{Name}
 use Rattle.trace.specs.declared.Name.the-variants.{Named, Nameless}
@@ -32,6 +36,8 @@ use Rattle.writing.specs.Writing.{Change, formatting, left, outcomeBy, outcomeT
 use Rattle.demands.specs.Demands.{FirstDemand, Writes}
 use Rattle.demands.specs.Refusals.{FirstBroken, Refuses, RefusesAndKeeps, Unbroken}
 use Rattle.demands.proofs.Cut.{cut, nonsense, only-cut, resumed, says-cut}
+use Rattle.demands.proofs.CutShort.{layout-passed}
+use Rattle.demands.proofs.EveryCall.{all-refused}
 
 -- the first broken row, found and given back
 one-more : (r : Row) (rows : List Row) (f : Refusal) → r .broken ≡ false → FirstBroken rows f → FirstBroken (r ∷ rows) f
@@ -172,9 +178,37 @@ writes c s above = (rw told (refuses (c .rows) (c .gives ∷ []) some-value abov
     kept : (f : Refusal) × (firstBroken (c .rows) ≡ Refused f) → left c s ≡ s
     kept (f, refused) = rw refused
 
+mended-told : (v : Verdict) (n : ℕ) (r : Repairs) → mendedTold (mendedBy v n r) ≡ toldBy v (n ∷ repairNumbers r)
+unfolding mendedTold
+mended-told (Refused f) n r = refl
+mended-told Passed n r = refl
+
+mends-or-keeps : (s old : List ℕ)
+    → let rows = mendingRows s (headerOf s) (length old) in
+    RefusesAndKeeps rows old (leftIn old (firstBroken rows) (copyOf s (headerOf s))) (mendedTold (mendOf s (length old)))
+unfolding mendOf open-rows
+mends-or-keeps s old =
+    (rw told (refuses rows _ some-value refl), λ some. kept (told-refused (firstBroken rows) (bufferEnd (headerOf s) ∷ repairNumbers (repairsOf s (headerOf s))) (rw told at some)))
+  where
+    rows : List Row
+    rows = mendingRows s (headerOf s) (length old)
+
+    told : mendedTold (mendedBy (firstBroken rows) (bufferEnd (headerOf s)) (repairsOf s (headerOf s))) ≡ toldBy (firstBroken rows) (bufferEnd (headerOf s) ∷ repairNumbers (repairsOf s (headerOf s)))
+    told = mended-told (firstBroken rows) (bufferEnd (headerOf s)) (repairsOf s (headerOf s))
+
+    kept : (f : Refusal) × (firstBroken rows ≡ Refused f) → leftIn old (firstBroken rows) (copyOf s (headerOf s)) ≡ old
+    kept (f, refused) = rw refused
+
+-- where rows 1 to 9 have passed, room is all that mending asks
+mended-room : (s : List ℕ) (room : ℕ) → Accepted (layoutRows (headerOf s) (length s)) → bufferEnd (headerOf s) ≤ room → Accepted (mendingRows s (headerOf s) room)
+unfolding row16
+mended-room s room layout fits =
+    sym (then-rest (layoutRows (headerOf s) (length s)) (row16 (bufferEnd (headerOf s)) room ∷ []) layout)
+    ∙ one-kept (row16 (bufferEnd (headerOf s)) room) (le-ltb room (bufferEnd (headerOf s)) fits)
+
 pub first-demand : FirstDemand
 unfolding numbersFrom open-rows open-writing-rows
-    recording registering removing formatting checkOf findName eventOf headerNumbers eventNumbers slotNumbers
+    recording registering removing formatting mendOf checkOf findName eventOf headerNumbers eventNumbers slotNumbers
 first-demand = record {
   orders = record {
     checking = λ s. refl;
@@ -186,6 +220,7 @@ first-demand = record {
     registering = λ object name s. refl;
     removing = λ pointer s. refl;
     formatting = λ f s. refl;
+    mending = λ s room. refl;
   };
   checking = λ s. rw (checked-told (firstBroken (dumpRows s (headerOf s))) (headerOf s) (eventCount s (headerOf s))) (refuses (dumpRows s (headerOf s)) _ some-value refl);
   finding = λ s pointer. rw (found-told (firstBroken (registryRows s (headerOf s))) (nameOf s (headerOf s) pointer)) (refuses (registryRows s (headerOf s)) _ (name-some (nameOf s (headerOf s) pointer)) refl);
@@ -197,6 +232,11 @@ first-demand = record {
   recording = λ slot s. writes (recording slot s) s refl;
   registering = λ object name s. writes (registering object name s) s refl;
   removing = λ pointer s. writes (removing pointer s) s refl;
+  mending = mends-or-keeps;
+  mending-alike = λ s f refused. (all-refused s f (sym (then-refused (layoutRows (headerOf s) (length s)) _ f refused)), λ room. rw (sym (then-refused (layoutRows (headerOf s) (length s)) (row16 (bufferEnd (headerOf s)) room ∷ []) f refused)));
+  mending-takes = λ s room begun there right.
+      let layout = layout-passed (headerOf s) (length s) begun there right in
+      (mended-room s room layout, λ short. rw (then-broken (layoutRows (headerOf s) (length s)) (row16 (bufferEnd (headerOf s)) room) [] layout (lt-ltb room (bufferEnd (headerOf s)) short)));
   says-cut = says-cut;
   only-cut = only-cut;
   nonsense = nonsense;

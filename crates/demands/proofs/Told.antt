@@ -11,6 +11,9 @@ use Rattle.events.specs.declared.Listed.{Listed}
 use Rattle.events.specs.declared.Listed.the-variants as listed
 use Rattle.events.specs.declared.Shown.{Shown}
 use Rattle.events.specs.declared.Shown.the-variants as shown
+use Rattle.mending.specs.Mending.{mendedTold}
+use Rattle.mending.specs.declared.Mended.{Mended}
+use Rattle.mending.specs.declared.Mended.the-variants as mended
 use Rattle.rows.specs.Told.{Told, valueAt}
 use Rattle.rows.specs.declared.Refusal.{Refusal}
 use Rattle.text.specs.declared.Context.{Context}
@@ -121,6 +124,21 @@ unfolding outcomeFrom outcomeTold
 outcome-back (outcome.Refused f) = refl
 outcome-back (outcome.Done n) = refl
 
+mendedFrom : Told → Mended
+mendedFrom t = unless mended.Refused (λ t. mended.Copied (valueAt t 0) (record {
+  missing = valueAt t 1;
+  current = valueAt t 2;
+  types = valueAt t 3;
+  ids = valueAt t 4;
+  packed = valueAt t 5;
+  moved = valueAt t 6;
+})) t (t .values)
+
+mended-back : (x : Mended) → mendedFrom (mendedTold x) ≡ x
+unfolding mendedFrom mendedTold
+mended-back (mended.Refused f) = refl
+mended-back (mended.Copied n r) = refl
+
 pub answers-tell : AnswersTell
 answers-tell = record {
   checked = tells-all checkedTold checkedFrom checked-back;
@@ -128,4 +146,5 @@ answers-tell = record {
   shown = tells-all shownTold shownFrom shown-back;
   listed = tells-all listedTold listedFrom listed-back;
   outcome = tells-all outcomeTold outcomeFrom outcome-back;
+  mended = tells-all mendedTold mendedFrom mended-back;
 }

@@ -8,14 +8,19 @@ use Rattle.events.specs.Listing.{Gave, fields, lineAt, lineRows, listedTold, li
 use Rattle.events.specs.declared.Listed.{Listed}
 use Rattle.events.specs.declared.Listed.the-variants as listed
 use Rattle.events.specs.declared.Reading.{Reading}
-use Rattle.rows.specs.Rows.{Accepted}
+use Rattle.mending.specs.Mending.{copyOf, mendOf, mendedTold, mendingRows}
+use Rattle.mending.specs.declared.Mended.the-variants as mended
+use Rattle.rows.specs.Lent.{leftIn}
+use Rattle.rows.specs.Rows.{Accepted, firstBroken}
+use Rattle.rows.specs.declared.Refusal.{Refusal}
+use Rattle.rows.specs.declared.Verdict.the-variants.{Refused}
 use Rattle.text.specs.Numbers.{digits, isBare}
 use Rattle.trace.specs.Check.{checkOf, checkedTold}
-use Rattle.trace.specs.Layout.{headerOf, mostBytes}
+use Rattle.trace.specs.Layout.{bufferEnd, headerOf, mostBytes}
 use Rattle.trace.specs.Names.{findName, foundTold}
 use Rattle.trace.specs.Ring.{keep}
 use Rattle.trace.specs.Slots.{eventCount}
-use Rattle.trace.specs.Table.{beforeEnds, dumpRows, eventRows, headerRows, registryRows}
+use Rattle.trace.specs.Table.{beforeEnds, dumpRows, eventRows, headerRows, layoutRows, registryRows}
 use Rattle.trace.specs.declared.Checked.the-variants as checked
 use Rattle.trace.specs.declared.Header.{Header}
 use Rattle.trace.specs.declared.Slot.{Slot}
@@ -27,7 +32,7 @@ use Rattle.writing.specs.declared.Format.{Format}
 use Rattle.writing.specs.declared.Object.{Object}
 use Rattle.writing.specs.declared.Outcome.the-variants as outcome
 use Rattle.demands.specs.BareNumbers.{BareNumbers}
-use Rattle.demands.specs.Cut.{CutAt, CutShort, NonsenseEnd, Resumed}
+use Rattle.demands.specs.Cut.{CutAt, CutShort, NonsenseEnd, RegistryThere, Resumed, RightBuffer}
 use Rattle.demands.specs.EveryCall.{AllRefused, SomeRefused}
 use Rattle.demands.specs.Gives.{Gives}
 use Rattle.demands.specs.History.{Call, NeverBack, NoneFormats, Typed, Write, acceptedWrites, after, lastOf, sinceOldest, trueGap, wholeRanges}
@@ -75,7 +80,18 @@ pub record FirstDemand : Type 0 where
   pub recording : (slot : Slot) (s : List ℕ) → Writes (recording slot s) s
   pub registering : (object : Object) (name s : List ℕ) → Writes (registering object name s) s
   pub removing : (pointer : ℕ) (s : List ℕ) → Writes (removing pointer s) s
-  -- 26 is given exactly where an end offset is otherwise right but beyond the dump's length, and callers pass it on; a nonsense end gets 7 or 9 (document 02, A1)
+  -- mending, which is lent a second buffer for the copy (document 02, A2)
+  pub mending : (s old : List ℕ)
+      → let rows = mendingRows s (headerOf s) (length old) in
+      RefusesAndKeeps rows old (leftIn old (firstBroken rows) (copyOf s (headerOf s))) (mendedTold (mendOf s (length old)))
+  -- what 1 to 9 refuse, save 26 at the buffer end, every call but formatting refuses alike, and so does mending; where 1 to 6 pass, the registry is there and
+  -- the buffer's end is right, whether or not the slots came, it takes whatever dump there is room for, and less room gives 16
+  pub mending-alike : (s : List ℕ) (f : Refusal) → firstBroken (layoutRows (headerOf s) (length s)) ≡ Refused f
+      → AllRefused s f × ((room : ℕ) → mendOf s room ≡ mended.Refused f)
+  pub mending-takes : (s : List ℕ) (room : ℕ) → Accepted (beforeEnds (headerOf s) (length s)) → RegistryThere (headerOf s) (length s) → RightBuffer (headerOf s)
+      → (bufferEnd (headerOf s) ≤ room → Accepted (mendingRows s (headerOf s) room)) × (room < bufferEnd (headerOf s) → mendOf s room ≡ mended.Refused (givenAt 16 0))
+  -- 26 is given exactly where an end offset is otherwise right but beyond the dump's length, and callers but formatting and mending pass it on; a nonsense end
+  -- gets 7 or 9 (document 02, A1)
   pub says-cut : (s : List ℕ) (k : ℕ) → CutShort (headerOf s) (length s) k → AllRefused s (givenAt 26 k)
   pub only-cut : (s : List ℕ) (k : ℕ) → SomeRefused s (givenAt 26 k) → CutShort (headerOf s) (length s) k
   pub nonsense : (s : List ℕ) → Accepted (beforeEnds (headerOf s) (length s)) → NonsenseEnd s

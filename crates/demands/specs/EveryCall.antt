@@ -1,4 +1,4 @@
--- The calls of document 01 but formatting, eight of them: all are refused alike, or some call is refused so.
+-- The calls of document 01 but formatting, eight of them: all are refused alike; and that one of them, or mending, is refused so.
 use Prim.Native.Nat.{ℕ}
 use mathlib.Core.List.{List}
 use mathlib.Core.Logic.{_↔_}
@@ -10,6 +10,8 @@ use Rattle.events.specs.declared.Listed.{Listed}
 use Rattle.events.specs.declared.Listed.the-variants as listed
 use Rattle.events.specs.declared.Reading.{Reading}
 use Rattle.events.specs.declared.Shown.the-variants as shown
+use Rattle.mending.specs.Mending.{mendOf}
+use Rattle.mending.specs.declared.Mended.the-variants as mended
 use Rattle.rows.specs.declared.Refusal.{Refusal}
 use Rattle.trace.specs.Check.{checkOf}
 use Rattle.trace.specs.Layout.{headerOf}
@@ -25,7 +27,7 @@ use Rattle.writing.specs.declared.Outcome.the-variants as outcome
 abbrev pub Declined : Refusal → Change → List ℕ → Type 0
 Declined f c s = (said c ≡ outcome.Refused f) × (left c s ≡ s)
 
--- every call but formatting is refused by the same number and place, and leaves what it is lent
+-- every call but formatting and mending, which mends what 26 at the buffer end says, is refused by the same number and place, and leaves what it is lent
 pub record AllRefused (s : List ℕ) (f : Refusal) : Type 0 where
   pub check : checkOf s ≡ checked.Refused f
   pub name : (pointer : ℕ) → findName s pointer ≡ found.Refused f
@@ -38,7 +40,7 @@ pub record AllRefused (s : List ℕ) (f : Refusal) : Type 0 where
   pub registering : (object : Object) (name : List ℕ) → Declined f (registering object name s) s
   pub removing : (pointer : ℕ) → Declined f (removing pointer s) s
 
--- some call but formatting is refused by this number and place
+-- some call but formatting is refused by this number and place, mending among them
 pub data SomeRefused (s : List ℕ) (f : Refusal) : Type 0 where
   by-check : checkOf s ≡ checked.Refused f → SomeRefused s f
   by-name : (pointer : ℕ) → findName s pointer ≡ found.Refused f → SomeRefused s f
@@ -50,3 +52,4 @@ pub data SomeRefused (s : List ℕ) (f : Refusal) : Type 0 where
   by-recording : (slot : Slot) → said (recording slot s) ≡ outcome.Refused f → SomeRefused s f
   by-registering : (object : Object) (name : List ℕ) → said (registering object name s) ≡ outcome.Refused f → SomeRefused s f
   by-removing : (pointer : ℕ) → said (removing pointer s) ≡ outcome.Refused f → SomeRefused s f
+  by-mending : (room : ℕ) → mendOf s room ≡ mended.Refused f → SomeRefused s f

@@ -12,6 +12,7 @@ pub mod JsonNumbers
 pub mod Keys
 pub mod Layouts
 pub mod Masks
+pub mod Mending
 pub mod Names
 pub mod NotRead
 pub mod Offsets

@@ -18,6 +18,7 @@ use Rattle.trace.specs.declared.Slot.{Slot}
 use Rattle.trace.specs.declared.Wanted.the-variants.{BadType, InUse}
 use Rattle.events.specs.Listing.{lineRows, listingRows}
 use Rattle.events.specs.declared.Reading.{Reading}
+use Rattle.mending.specs.Mending.{mendingRows}
 use Rattle.words.specs.Each.{Each}
 use Rattle.writing.specs.Table.{lowestEntry}
 use Rattle.writing.specs.Writing.{formatting, recording, registering, removing}
@@ -59,10 +60,13 @@ givenAt number place = record { number = number; place = place }
 abbrev pub plain : List ℕ → List Refusal
 plain numbers = map (λ number. givenAt number 0) numbers
 
--- 1 to 7, and 26 with the bytes missing up to the registry end; 8, 9, and 26 with those missing up to the buffer end; 10; then 11 with the lowest such entry;
--- then 12 and 13 with the lowest such slot
+-- 1 to 7, and 26 with the bytes missing up to the registry end; 8, 9
+abbrev pub layoutOrder : Header → ℕ → List Refusal
+layoutOrder h n = plain (numbersFrom 1 7) ++ (givenAt 26 (registryEnd h - n) ∷ plain (8 ∷ 9 ∷ []))
+
+-- and 26 with those missing up to the buffer end; 10; then 11 with the lowest such entry; then 12 and 13 with the lowest such slot
 abbrev pub headerOrder : Header → ℕ → List Refusal
-headerOrder h n = plain (numbersFrom 1 7) ++ (givenAt 26 (registryEnd h - n) ∷ plain (8 ∷ 9 ∷ [])) ++ (givenAt 26 (bufferEnd h - n) ∷ plain (10 ∷ []))
+headerOrder h n = layoutOrder h n ++ (givenAt 26 (bufferEnd h - n) ∷ plain (10 ∷ []))
 
 abbrev pub registryOrder : List ℕ → Header → List Refusal
 registryOrder s h = headerOrder h (length s) ++ (givenAt 11 (lowestEntry BadType s h) ∷ [])
@@ -86,3 +90,5 @@ pub record Orders : Type 0 where
       → checksOf (registering object name s .rows) ≡ headerOrder (headerOf s) (length s) ++ plain (19 ∷ 23 ∷ []) ++ (givenAt 20 (lowestEntry (InUse (object .pointer)) s (headerOf s)) ∷ plain (21 ∷ []))
   pub removing : (pointer : ℕ) (s : List ℕ) → checksOf (removing pointer s .rows) ≡ headerOrder (headerOf s) (length s) ++ plain (22 ∷ [])
   pub formatting : (f : Format) (s : List ℕ) → checksOf (formatting f s .rows) ≡ plain (2 ∷ 4 ∷ 5 ∷ 24 ∷ [])
+  -- mending, 1 to 9 save 26 at the buffer end, then 16
+  pub mending : (s : List ℕ) (room : ℕ) → checksOf (mendingRows s (headerOf s) room) ≡ layoutOrder (headerOf s) (length s) ++ plain (16 ∷ [])

@@ -3,6 +3,7 @@ use mathlib.Core.Logic.{_↔_}
 use mathlib.Core.Path.{_≡_}
 use Rattle.events.specs.Events.{shownTold}
 use Rattle.events.specs.Listing.{listedTold}
+use Rattle.mending.specs.Mending.{mendedTold}
 use Rattle.rows.specs.Told.{Told}
 use Rattle.trace.specs.Check.{checkedTold}
 use Rattle.trace.specs.Names.{foundTold}
@@ -17,3 +18,4 @@ pub record AnswersTell : Type 0 where
   pub shown : TellsAll shownTold
   pub listed : TellsAll listedTold
   pub outcome : TellsAll outcomeTold
+  pub mended : TellsAll mendedTold

@@ -36,7 +36,8 @@ fn has_pointer(dump: &[u8], at: usize, order: Order, pointer: u32) -> bool
     words::word(dump, at + 4, order) == pointer
 }
 
-fn is_bad_type(dump: &[u8], at: usize) -> bool
+// Whether the entry at a place is in use and has a type that is not allowed.
+pub fn is_bad_type(dump: &[u8], at: usize) -> bool
     ensures { λ r. ⌜ r ≡ (isInUse (now (dump .entry)) at && not (isAllowedType (typeAt (now (dump .entry)) at))) ⌝ }
 {
     let used = in_use(dump, at);

@@ -2,8 +2,8 @@
 use Prim.Native.Nat.{ℕ, _≤_}
 use mathlib.Core.List.{List}
 use lib.ListN.{length}
-use Rattle.lepsaino.specs.declared.Took.{Took}
-use Rattle.lepsaino.specs.declared.Took.the-variants.{Bytes, Failed}
+use Rattle.lepsaino.specs.declared.shared.Took.{Took}
+use Rattle.lepsaino.specs.declared.shared.Took.the-variants.{Bytes, Failed}
 
 abbrev pub InSpace : Took → List ℕ → Type 0
 InSpace (Bytes n) space = n ≤ length space

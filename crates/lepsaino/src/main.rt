@@ -1,18 +1,21 @@
 // lepsaino FILE RATE UNIT SERIAL: prints the listing of a dump, or the refusal's number, a space and its place as one line.
-// A usage or file error is one line on standard error, and nothing on standard output.
+// A usage or file error is one line on standard error, and nothing on standard output. With `mend` first it mends a dump instead.
 mod arguments;
+mod mends;
+mod shared;
 
 use arguments::number_in;
 use console::print_front;
-use console::print_refusal;
 use events::Listed;
 use events::Reading;
-use libc::STDERR_FILENO;
-use libc::STDOUT_FILENO;
+use mends::mend_by_arguments;
+use shared::Took;
+use shared::print_refused;
+use shared::read_file;
+use shared::say;
 ghost use mathlib.Core.Path.{_≡_};
 ghost use lib.ListN.{length};
 ghost use Rattle.lepsaino.specs.Arguments.{AtMost};
-ghost use Rattle.lepsaino.specs.Files.{InSpace};
 
 // Room for 2,046 events at 774 bytes each, six for each of 64 bytes of a name and 65 more: any listing fits, and none is measured first.
 fn output_space() -> [u8; 1583604]
@@ -27,63 +30,20 @@ enum Argument {
     Number(u64),
 }
 
-// What a file's bytes came to.
-enum Took {
-    Bytes(usize),
-    Failed,
-}
-
-fn say(line: &[u8]) {
-    io::write_all(STDERR_FILENO, line);
-}
-
 fn print_listing(dump: &[u8], reading: Reading) {
     let mut space = output_space();
     let out: &mut [u8] = &mut space;
     match listing::listing(dump, reading, out) {
-        Listed::Refused(refusal) => {
-            print_refusal(refusal);
-            io::write_all(STDOUT_FILENO, b"\n");
-        }
+        Listed::Refused(refusal) => print_refused(refusal),
         Listed::Written(n) => print_front(out, n),
     }
 }
 
-// Reads until the space is full or the file ends. One byte more than a dump may have is room enough.
-fn read_all(file: i32, space: &mut [u8]) -> Took
-    ensures { λ r. ⌜ InSpace r (now (space .exit)) ⌝ }
-{
-    let mut done = 0;
-    while done < space.len() {
-        let got = libc::read(file, &mut space[done..]);
-        if got < 0 {
-            return Took::Failed;
-        }
-        let more = io::count(got, &space[done..]);
-        if more == 0 {
-            return Took::Bytes(done);
-        }
-        done += more;
-    }
-    Took::Bytes(done)
-}
-
-fn list_file(path: &[u8], file: i32, reading: Reading) {
+fn list_file(path: &[u8], reading: Reading) {
     let mut space = [0u8; 65537];
-    match read_all(file, &mut space) {
-        Took::Failed => os::fail(path),
-        Took::Bytes(n) => print_listing(&space[..n], reading),
+    if let Took::Bytes(n) = read_file(path, &mut space) {
+        print_listing(&space[..n], reading);
     }
-}
-
-fn open_and_list(path: &[u8], reading: Reading) {
-    let file = os::open_read(path);
-    if file < 0 {
-        os::fail(path);
-        return;
-    }
-    list_file(path, file, reading);
-    libc::close(file);
 }
 
 fn list_with(reading: Reading) {
@@ -93,7 +53,7 @@ fn list_with(reading: Reading) {
         say(b"FILE is empty, or longer than 4096 bytes\n");
         return;
     }
-    open_and_list(&space[..n], reading);
+    list_file(&space[..n], reading);
 }
 
 // The number in an argument, of at most so much.
@@ -105,7 +65,7 @@ fn argument_at(i: usize, most: u64) -> Argument
     number_in(&space[..n], most)
 }
 
-fn main() {
+fn list_by_arguments() {
     if os::arg_count() != 5 {
         say(b"usage: lepsaino FILE RATE UNIT SERIAL\n");
         return;
@@ -128,4 +88,19 @@ fn main() {
     let rate = rate as u32;
     let unit = unit as u32;
     list_with(Reading { rate, unit, serial });
+}
+
+// Whether the first argument asks for mending.
+fn is_to_mend() -> bool {
+    let mut space = io::buffer();
+    let n = os::arg(1, &mut space);
+    check::same(&space[..n], b"mend")
+}
+
+fn main() {
+    if is_to_mend() {
+        mend_by_arguments();
+    } else {
+        list_by_arguments();
+    }
 }

@@ -9,6 +9,8 @@ use Rattle.events.specs.Events.{shownTold, slotFrom}
 use Rattle.events.specs.Listing.{Gave, listedBy, listedTold}
 use Rattle.events.specs.declared.Listed.{Listed}
 use Rattle.events.specs.declared.Shown.{Shown}
+use Rattle.mending.specs.Mending.{mendedTold}
+use Rattle.mending.specs.declared.Mended.{Mended}
 use Rattle.rows.specs.Rows.{Row, firstBroken}
 use Rattle.rows.specs.Told.{Told, valueAt}
 use Rattle.trace.specs.Check.{checkedTold}
@@ -23,6 +25,7 @@ use Rattle.writing.specs.declared.Outcome.{Outcome}
 use Rattle.lepsaino_c.specs.declared.answers.Answer.{Answer}
 use Rattle.lepsaino_c.specs.declared.answers.CheckAnswer.{CheckAnswer}
 use Rattle.lepsaino_c.specs.declared.answers.EventAnswer.{EventAnswer}
+use Rattle.lepsaino_c.specs.declared.answers.MendAnswer.{MendAnswer}
 use Rattle.lepsaino_c.specs.declared.answers.NameAnswer.{NameAnswer}
 use Rattle.lepsaino_c.specs.declared.writers.FormatNumbers.{FormatNumbers}
 
@@ -84,6 +87,23 @@ eventAnswerOf t = record {
 
 unfoldable pub eventAnswer : Shown → EventAnswer
 eventAnswer x = eventAnswerOf (shownTold x)
+
+-- mending: the copy's length, and the six counts
+abbrev pub mendAnswerOf : Told → MendAnswer
+mendAnswerOf t = record {
+  refusal = t .number;
+  place = t .place;
+  length = valueAt t 0;
+  missing = valueAt t 1;
+  current = valueAt t 2;
+  types = valueAt t 3;
+  ids = valueAt t 4;
+  packed = valueAt t 5;
+  moved = valueAt t 6;
+}
+
+unfoldable pub mendAnswer : Mended → MendAnswer
+mendAnswer x = mendAnswerOf (mendedTold x)
 
 -- formatting: 0 is little-endian, any other number big
 unfoldable pub orderGiven : ℕ → Order

@@ -1,13 +1,20 @@
 // The calls that write into a buffer.
 use crate::answers::Answer;
+use crate::answers::MendAnswer;
+use crate::answers::of_mended;
 use crate::answers::of_outcome;
 use trace::Slot;
 use words::Order;
 use writing::Format;
 use writing::Object;
 ghost use mathlib.Core.Path.{_≡_};
+ghost use lib.ListN.{length};
+ghost use Rattle.mending.specs.Mending.{copyOf, mendOf, mendingRows};
+ghost use Rattle.rows.specs.Lent.{leftIn};
+ghost use Rattle.rows.specs.Rows.{firstBroken};
+ghost use Rattle.trace.specs.Layout.{headerOf};
 ghost use Rattle.writing.specs.Writing.{formatting, left, recording, registering, removing, said};
-ghost use Rattle.lepsaino_c.specs.Answers.{formatGiven, orderGiven, outcomeAnswer};
+ghost use Rattle.lepsaino_c.specs.Answers.{formatGiven, mendAnswer, orderGiven, outcomeAnswer};
 
 // A format with its byte order as a number: 0 is little-endian, any other big.
 #[repr(C)]
@@ -70,4 +77,12 @@ pub extern "C" fn lepsaino_remove(buffer: &mut [u8], pointer: u32) -> Answer
     ensures { λ r. ⌜ (r ≡ outcomeAnswer (said (removing pointer (now (buffer .entry))))) × (now (buffer .exit) ≡ left (removing pointer (now (buffer .entry))) (now (buffer .entry))) ⌝ }
 {
     of_outcome(registrar::remove(buffer, pointer))
+}
+
+// Mends a dump into a second buffer.
+#[no_mangle]
+pub extern "C" fn lepsaino_mend(dump: &[u8], copy: &mut [u8]) -> MendAnswer
+    ensures { λ r. ⌜ (r ≡ mendAnswer (mendOf (now (dump .entry)) (length (now (copy .entry))))) × (now (copy .exit) ≡ leftIn (now (copy .entry)) (firstBroken (mendingRows (now (dump .entry)) (headerOf (now (dump .entry))) (length (now (copy .entry))))) (copyOf (now (dump .entry)) (headerOf (now (dump .entry))))) ⌝ }
+{
+    of_mended(mender::mend(dump, copy))
 }

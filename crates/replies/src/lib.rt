@@ -4,6 +4,7 @@
 // Numbers in the file are little-endian. Past its end they read as 0, which is no title's length and no call's letter.
 mod arguments;
 mod buffers;
+mod mends;
 mod readers;
 mod texts;
 mod writers;
@@ -14,6 +15,7 @@ use console::print_front;
 use console::read_some;
 use console::word_at;
 use libc::STDOUT_FILENO;
+use mends::print_mending;
 use readers::print_checked;
 use readers::print_found;
 use readers::print_shown;
@@ -33,7 +35,7 @@ fn read_number(file: i32, size: usize) -> u32 {
     word_at(&bytes, 0)
 }
 
-// The check (c), an event (e), a name (n), a line (l), the listing (a), all bytes (b), or the outcome of a writing call.
+// The check (c), an event (e), a name (n), a line (l), the listing (a), mending into a copy (m), all bytes (b), or the outcome of a writing call.
 fn print_reply(buffer: &[u8], kind: u8, arguments: &[u8], outcome: Outcome) {
     match kind {
         b'c' => print_checked(buffer),
@@ -41,6 +43,7 @@ fn print_reply(buffer: &[u8], kind: u8, arguments: &[u8], outcome: Outcome) {
         b'n' => print_found(buffer, arguments),
         b'l' => print_text(buffer, arguments, false),
         b'a' => print_text(buffer, arguments, true),
+        b'm' => print_mending(buffer, arguments),
         b'b' => print_bytes(buffer),
         _ => print_outcome(buffer, outcome),
     }

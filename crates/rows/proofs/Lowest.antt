@@ -1,12 +1,12 @@
 -- The laws of a search for the lowest index, and of a count, for any test.
-use Prim.Native.Nat.{ℕ, zero, suc, _+_, _<_, _≤_, min}
+use Prim.Native.Nat.{ℕ, zero, suc, _+_, _-_, _<_, _≤_, min}
 use mathlib.Core.Bool.{Bool, true, false, cond}
 use mathlib.Core.Path.{_≡_, refl, sym, ap, ap₂, _∙_}
-use native.Mathlib.Decide.{decLt}
+use native.Mathlib.Decide.{decLt, ℕ-discrete}
 use native.Mathlib.Numerals.{add-one}
 use native.Mathlib.Omega.{arith}
-use borrow.Author.Tests.{lt-ltb, le-ltb, ltb-false}
-use lib.Dec.{ltb}
+use borrow.Author.Tests.{le-leb, lt-leb, lt-ltb, le-ltb, ltb-false}
+use lib.Dec.{leb, ltb}
 use Rattle.rows.specs.Lowest.{lowest, count}
 
 -- a search that meets no hit ends at the count
@@ -98,6 +98,23 @@ unfolding count
 count-le t zero = omega arith
 count-le t (suc n) = omega (arith, count-le t n, one-at-most (t n))
 
+-- where none passes nothing is counted
+pub count-none : (t : ℕ → Bool) (n : ℕ) → ((i : ℕ) → i < n → t i ≡ false) → count t n ≡ 0
+unfolding count
+count-none t zero none = refl
+count-none t (suc n) none = rw (none n (omega arith), count-none t n (λ i below. none i (omega arith)))
+
+-- where all are counted, each passes
+pub count-all : (t : ℕ → Bool) (n : ℕ) → count t n ≡ n → (i : ℕ) → i < n → t i ≡ true
+unfolding count
+count-all t zero all i below = absurd (omega arith)
+count-all t (suc n) all i below = by (t n) refl (ℕ-discrete i n) all (λ rest less. count-all t n rest i less)
+  where
+    by : (b : Bool) → t n ≡ b → Dec (i ≡ n) → count t n + cond b 1 0 ≡ suc n → (count t n ≡ n → i < n → t i ≡ true) → t i ≡ true
+    by true e (yes last) all rest = rw last e
+    by true e (no before) all rest = rest (omega arith) (omega arith)
+    by false e last all rest = absurd (omega (arith, count-le t n))
+
 -- a test that the first m pass and no others counts them
 pub count-first : (t : ℕ → Bool) (n m : ℕ) → ((i : ℕ) → i < n → t i ≡ ltb i m) → count t n ≡ min m n
 unfolding count
@@ -107,3 +124,13 @@ count-first t (suc n) m first = rw (first n (omega arith)) (by (decLt n m) (coun
     by : Dec (n < m) → count t n ≡ min m n → count t n + cond (ltb n m) 1 0 ≡ min m (suc n)
     by (yes below) counted = rw (lt-ltb n m below) (omega arith)
     by (no past) counted = rw (le-ltb n m (omega arith)) (omega arith)
+
+-- and one that all pass but the first m counts the others
+pub count-rest : (t : ℕ → Bool) (n m : ℕ) → ((i : ℕ) → i < n → t i ≡ leb m i) → count t n ≡ n - m
+unfolding count
+count-rest t zero m rest = omega arith
+count-rest t (suc n) m rest = rw (rest n (omega arith)) (by (decLt n m) (count-rest t n m (λ i below. rest i (omega arith))))
+  where
+    by : Dec (n < m) → count t n ≡ n - m → count t n + cond (leb m n) 1 0 ≡ suc n - m
+    by (yes below) counted = rw (lt-leb m n below) (omega arith)
+    by (no past) counted = rw (le-leb m n (omega arith)) (omega arith)

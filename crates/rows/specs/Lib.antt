@@ -1,3 +1,4 @@
 pub mod Lowest
 pub mod Rows
 pub mod Told
+pub mod Lent

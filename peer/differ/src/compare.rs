@@ -103,24 +103,29 @@ impl Comparison {
 
     /// What is wrong with the bytes after the call.
     fn fault(&self, buffer: &[u8], call: &Call, reply: &Reply) -> Option<String> {
-        let text = match reply {
+        let written = match reply {
             Reply::Text {
                 result: Ok(text), ..
             } => &text[..],
+            Reply::Mend {
+                result: Ok(answer), ..
+            } => &answer.copy,
             _ => &[],
         };
         let writes = matches!(reply, Reply::Written { result: Ok(_), .. });
         if !writes && buffer != self.before {
             return Some("the peer changed bytes that must stay".to_string());
         }
-        self.loan.fault(buffer, name(call), text)
+        self.loan.fault(buffer, name(call), written)
     }
 }
 
-/// The room for the text of a line or a listing.
+/// The room for the text of a line or a listing, or for a mended copy.
 fn room(call: &Call) -> usize {
     match call {
-        Call::Line { room, .. } | Call::Listing { room, .. } => *room as usize,
+        Call::Line { room, .. } | Call::Listing { room, .. } | Call::Mend { room } => {
+            *room as usize
+        }
         _ => 0,
     }
 }

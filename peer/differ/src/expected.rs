@@ -2,8 +2,8 @@
 
 use crate::arguments::slot;
 use crate::plain::Given;
-use lepsaino::raw::{self, Answer, Checked, Event, Name};
-use peer::answers::{EventAnswer, FoundName, Reply};
+use lepsaino::raw::{self, Answer, Checked, Event, Mended, Name};
+use peer::answers::{EventAnswer, FoundName, MendAnswer, Reply};
 use peer::{ByteOrder, Context, Refusal, Summary};
 
 /// None for the one kind of call that the library does not have.
@@ -23,6 +23,9 @@ pub fn given(reply: &Reply) -> Option<Given> {
         ),
         Reply::Written { result, .. } => {
             Given::Answer(result.as_ref().map_or_else(refused, |done| value(*done)))
+        }
+        Reply::Mend { result, .. } => {
+            Given::Mended(result.as_ref().map_or_else(not_mended, mended))
         }
         Reply::Bytes(_) => return None,
     })
@@ -64,6 +67,29 @@ fn no_name(refusal: &Refusal) -> Name {
         refusal: refusal.number,
         place: refusal.place,
         ..Name::default()
+    }
+}
+
+fn not_mended(refusal: &Refusal) -> Mended {
+    Mended {
+        refusal: refusal.number,
+        place: refusal.place,
+        ..Mended::default()
+    }
+}
+
+fn mended(answer: &MendAnswer) -> Mended {
+    let mended = &answer.mended;
+    Mended {
+        refusal: 0,
+        place: 0,
+        length: mended.length,
+        missing: mended.missing,
+        current: mended.current,
+        types: mended.types,
+        ids: mended.ids,
+        packed: mended.packed,
+        moved: mended.moved,
     }
 }
 

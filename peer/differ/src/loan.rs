@@ -21,8 +21,8 @@ impl Loan {
         self.out.fill(chance, room, self.fill);
     }
 
-    /// What is not as it must be after a call: the buffer as the peer leaves it, the name, the text and the output past it.
-    pub fn fault(&self, buffer: &[u8], name: &[u8], text: &[u8]) -> Option<String> {
+    /// What is not as it must be after a call: the buffer as the peer leaves it, the name, the text or the copy written, and the output past it.
+    pub fn fault(&self, buffer: &[u8], name: &[u8], written: &[u8]) -> Option<String> {
         let given = self.buffer.bytes();
         if given != buffer {
             return Some(format!(
@@ -34,17 +34,17 @@ impl Loan {
         if self.name.bytes() != name {
             return Some("the library changed the name".to_string());
         }
-        self.output_fault(text)
+        self.output_fault(written)
     }
 
-    pub fn output_fault(&self, text: &[u8]) -> Option<String> {
+    pub fn output_fault(&self, written: &[u8]) -> Option<String> {
         let out = self.out.bytes();
-        if !out.starts_with(text) {
-            let given = front(&out[..text.len().min(out.len())]);
+        if !out.starts_with(written) {
+            let given = front(&out[..written.len().min(out.len())]);
             return Some(format!("the library writes {given}"));
         }
-        if !all_are(&out[text.len()..], self.fill) {
-            return Some("the library changed the output past the text".to_string());
+        if !all_are(&out[written.len()..], self.fill) {
+            return Some("the library changed the output past what it wrote".to_string());
         }
         let lent = [&self.buffer, &self.name, &self.out];
         if !lent.iter().all(|lent| lent.guards_hold()) {

@@ -7,6 +7,7 @@ mod compare;
 mod expected;
 mod lent;
 mod loan;
+mod mends;
 mod number;
 mod plain;
 mod tally;

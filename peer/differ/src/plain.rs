@@ -12,6 +12,7 @@ pub enum Given {
     Event(Event),
     Name(Name),
     Answer(Answer),
+    Mended(Mended),
 }
 
 /// None for the one kind of call that the library does not have.
@@ -48,6 +49,7 @@ pub fn answer(chance: &mut Chance, loan: &mut Loan, call: &Call) -> Option<Given
                 Given::Answer(lepsaino_register(buffer, length, object, name, name_length))
             }
             Call::Remove { pointer } => Given::Answer(lepsaino_remove(buffer, length, *pointer)),
+            Call::Mend { .. } => Given::Mended(lepsaino_mend(buffer, length, out, room)),
             Call::Bytes => return None,
         })
     }

@@ -1,5 +1,6 @@
 //! Counts of what was compared.
 
+use crate::mends::Mends;
 use peer::answers::Reply;
 use peer::call::Call;
 use peer::Header;
@@ -11,7 +12,7 @@ pub const REFUSALS: usize = 26;
 const CUT: usize = 26;
 const ENDS: [&str; 2] = ["registry end", "buffer end"];
 
-const KINDS: [&str; 10] = [
+const KINDS: [&str; 11] = [
     "check",
     "event",
     "find name",
@@ -21,6 +22,7 @@ const KINDS: [&str; 10] = [
     "record",
     "register",
     "remove",
+    "mend",
     "number",
 ];
 
@@ -31,6 +33,7 @@ pub struct Tally {
     accepted: [u64; KINDS.len()],
     refusals: [[u64; REFUSALS]; KINDS.len()],
     cut: [[u64; ENDS.len()]; KINDS.len()],
+    mends: Mends,
 }
 
 impl Tally {
@@ -42,6 +45,9 @@ impl Tally {
             Some(refusal) => self.count_refusal(buffer, kind, refusal.number as usize),
             None => self.accepted[kind] += 1,
         }
+        if let Reply::Mend { result, .. } = reply {
+            self.mends.count(result);
+        }
     }
 
     fn count_refusal(&mut self, buffer: &[u8], kind: usize, number: usize) {
@@ -49,7 +55,13 @@ impl Tally {
         assert!(can_give(kind, number), "{name} has no refusal {number}");
         self.refusals[kind][number - 1] += 1;
         if number == CUT {
-            self.cut[kind][usize::from(has_registry(buffer))] += 1;
+            let end = usize::from(has_registry(buffer));
+            assert!(
+                can_be_cut(kind, end),
+                "{name} has no {CUT} at the {}",
+                ENDS[end]
+            );
+            self.cut[kind][end] += 1;
         }
     }
 
@@ -73,12 +85,13 @@ impl Tally {
             }
             missing.extend(self.ends_missing(kind));
         }
+        missing.extend(self.mends.missing());
         missing
     }
 
     fn ends_missing(&self, kind: usize) -> Vec<String> {
         let name = KINDS[kind];
-        let never = |end: &usize| can_give(kind, CUT) && self.cut[kind][*end] == 0;
+        let never = |end: &usize| can_be_cut(kind, *end) && self.cut[kind][*end] == 0;
         (0..ENDS.len())
             .filter(never)
             .map(|end| format!("{name} refused with {CUT} at the {}", ENDS[end]))
@@ -116,12 +129,18 @@ fn can_give(kind: usize, number: usize) -> bool {
         "record" => matches!(number, 1..=10 | 17 | 18 | CUT),
         "register" => matches!(number, 1..=10 | 19..=21 | 23 | CUT),
         "remove" => matches!(number, 1..=10 | 22 | CUT),
+        "mend" => matches!(number, 1..=9 | 16 | CUT),
         _ => false,
     }
 }
 
+/// A mending zeros the slots missing before the buffer end.
+fn can_be_cut(kind: usize, end: usize) -> bool {
+    can_give(kind, CUT) && (KINDS[kind] != "mend" || ENDS[end] != "buffer end")
+}
+
 fn kind(call: &Call) -> usize {
-    let letters = b"cenlafwox";
+    let letters = b"cenlafwoxm";
     let letter = call.letter();
     letters
         .iter()
@@ -148,6 +167,6 @@ impl fmt::Display for Tally {
         for (end, name) in ENDS.iter().enumerate() {
             writeln!(text, "{:>10} of {} at the {}", self.cut_at(end), CUT, name)?;
         }
-        Ok(())
+        write!(text, "{}", self.mends)
     }
 }

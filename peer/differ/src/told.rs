@@ -3,7 +3,7 @@
 use peer::answers::Reply;
 use peer::call::Call;
 
-/// So much of a buffer or of a text is shown.
+/// So much of a buffer, a text or a copy is shown.
 const SHOWN: usize = 4096;
 
 pub fn told(before: &[u8], call: &Call, reply: &Reply, difference: &str) -> String {
@@ -13,7 +13,7 @@ pub fn told(before: &[u8], call: &Call, reply: &Reply, difference: &str) -> Stri
     format!("{call:?}\nbuffer of {length} bytes: {bytes}\nthe peer gives {peer}\n{difference}")
 }
 
-/// An answer that is a text, as the text.
+/// An answer that is a text, as the text; a mended copy as its bytes.
 pub fn shown(reply: &Reply) -> String {
     match reply {
         Reply::Text {
@@ -25,6 +25,17 @@ pub fn shown(reply: &Reply) -> String {
                 text.len(),
                 changed,
                 front(text)
+            )
+        }
+        Reply::Mend {
+            result: Ok(answer),
+            changed,
+        } => {
+            format!(
+                "{:?}, {} changed past the copy: {}",
+                answer.mended,
+                changed,
+                hex(&answer.copy)
             )
         }
         _ => format!("{reply:?}"),
@@ -39,6 +50,13 @@ pub fn hex(bytes: &[u8]) -> String {
         .collect()
 }
 
-pub fn front(text: &[u8]) -> String {
-    String::from_utf8_lossy(&text[..text.len().min(SHOWN)]).into_owned()
+/// A text as it is, other bytes in hex.
+pub fn front(bytes: &[u8]) -> String {
+    let bytes = &bytes[..bytes.len().min(SHOWN)];
+    let is_text = bytes.iter().all(|byte| matches!(byte, b'\n' | 0x20..=0x7E));
+    if is_text {
+        String::from_utf8_lossy(bytes).into_owned()
+    } else {
+        hex(bytes)
+    }
 }

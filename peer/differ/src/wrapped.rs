@@ -2,11 +2,11 @@
 
 use crate::arguments;
 use crate::loan::Loan;
-use peer::answers::{EventAnswer, FoundName, Reply};
+use peer::answers::{EventAnswer, FoundName, MendAnswer, Reply};
 use peer::call::Call;
 use peer::digest::digest;
 use peer::generate::chance::Chance;
-use peer::{ByteOrder, Context, Header, Refusal, Summary};
+use peer::{ByteOrder, Context, Header, Mended, Refusal, Summary};
 
 /// The length of a text, or what a writing call gives.
 type Written = Result<usize, lepsaino::Refusal>;
@@ -35,6 +35,10 @@ pub fn answer(chance: &mut Chance, loan: &mut Loan, call: &Call) -> Option<Reply
             let reading = arguments::reading(reading);
             let length = lepsaino::listing(buffer, reading, loan.out.bytes_mut());
             text(loan, length)
+        }
+        Call::Mend { .. } => {
+            let given = lepsaino::mend(buffer, loan.out.bytes_mut());
+            mended(loan, given)
         }
         _ => {
             let done = write(chance, loan, call)?;
@@ -67,8 +71,33 @@ fn text(loan: &Loan, length: Written) -> Reply {
     let (text, past) = loan.out.bytes().split_at(length.unwrap_or(0));
     Reply::Text {
         result: length.map(|_| text.to_vec()).map_err(refusal),
-        changed: past.iter().filter(|&&byte| byte != loan.fill).count(),
+        changed: changed(loan, past),
     }
+}
+
+fn mended(loan: &Loan, given: Result<lepsaino::Mended, lepsaino::Refusal>) -> Reply {
+    let length = given.map_or(0, |given| given.length);
+    let (copy, past) = loan.out.bytes().split_at(length);
+    let answer = |given: lepsaino::Mended| MendAnswer {
+        mended: Mended {
+            length: given.length,
+            missing: given.missing,
+            current: given.current,
+            types: given.types,
+            ids: given.ids,
+            packed: given.packed,
+            moved: given.moved,
+        },
+        copy: copy.to_vec(),
+    };
+    Reply::Mend {
+        result: given.map(answer).map_err(refusal),
+        changed: changed(loan, past),
+    }
+}
+
+fn changed(loan: &Loan, past: &[u8]) -> usize {
+    past.iter().filter(|&&byte| byte != loan.fill).count()
 }
 
 fn summary(checked: lepsaino::Checked) -> Summary {

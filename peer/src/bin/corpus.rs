@@ -4,14 +4,15 @@ use peer::answers::{answer, Reply};
 use peer::call::Call;
 use peer::case::Case;
 use peer::generate::{document, Generator};
+use peer::mend::COUNTS;
 use peer::print::{print_reply, print_title};
 use peer::Reading;
 use std::collections::HashSet;
 use std::path::Path;
 
 const SEED: u64 = 9_007_199_254_740_992;
-const GENERATED: usize = 4_000;
-const LETTERS: &[u8; 10] = b"cenlafwoxb";
+const GENERATED: usize = 4_500;
+const LETTERS: &[u8; 11] = b"cenlafwoxbm";
 const REFUSALS: usize = 26;
 
 #[derive(Default)]
@@ -22,9 +23,12 @@ struct Corpus {
     listed: HashSet<u64>,
     repeated: usize,
     count: usize,
-    calls: [usize; 10],
+    calls: [usize; 11],
     refusals: [usize; REFUSALS + 1],
     with_place: [usize; REFUSALS + 1],
+    mended: usize,
+    /// Mendings with each count above 0.
+    with_count: [usize; COUNTS.len()],
 }
 
 impl Corpus {
@@ -75,6 +79,15 @@ impl Corpus {
             self.refusals[refusal.number as usize] += 1;
             self.with_place[refusal.number as usize] += usize::from(refusal.place > 0);
         }
+        if let Reply::Mend {
+            result: Ok(answer), ..
+        } = reply
+        {
+            self.mended += 1;
+            for (sum, count) in self.with_count.iter_mut().zip(answer.mended.counts()) {
+                *sum += usize::from(count > 0);
+            }
+        }
     }
 
     fn table(&self) {
@@ -88,6 +101,10 @@ impl Corpus {
                 "refusal {} {}, place above 0: {}",
                 number, count, self.with_place[number]
             );
+        }
+        println!("mended {}", self.mended);
+        for (name, count) in COUNTS.iter().zip(self.with_count) {
+            println!("mended, {} above 0: {}", name, count);
         }
         println!(
             "keys of whole listings {}, repeated {}",
@@ -128,6 +145,8 @@ fn main() -> std::io::Result<()> {
     assert_eq!(corpus.repeated, 0, "two whole listings share a key");
     let often = corpus.refusals[1..].iter().all(|&count| count > 100);
     assert!(often, "a refusal is given too seldom");
+    let often = corpus.with_count.iter().all(|&count| count > 100);
+    assert!(often, "a rule of mending is met too seldom");
     corpus.write(Path::new(&folder))?;
     corpus.table();
     Ok(())

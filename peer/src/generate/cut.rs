@@ -22,6 +22,7 @@ pub fn cut_dump(generator: &mut Generator) -> Case {
     cut(chance, &mut sketch);
     let mut draft = Draft::new("cut", sketch.bytes(), pointers);
     draft.check();
+    draft.mend(chance);
     draft.event(chance);
     draft.find_name(chance);
     draft.line(chance);
@@ -77,7 +78,8 @@ fn far_registry_end(chance: &mut Chance, sketch: &mut Sketch) {
     }
 }
 
-fn far_buffer_end(chance: &mut Chance, sketch: &mut Sketch) {
+/// As if far more slots followed than the dump has.
+pub fn far_buffer_end(chance: &mut Chance, sketch: &mut Sketch) {
     let ring = sketch.ring();
     let slots = far_count(chance, (LARGEST_DUMP - ring) / SLOT_SIZE);
     sketch.buffer_end = sketch.pointer(ring + SLOT_SIZE * slots);

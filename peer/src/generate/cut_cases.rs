@@ -66,6 +66,7 @@ fn every_call(title: &str, buffer: &[u8], unit: u32) -> Case {
     let pointer = 0x2000_1000;
     let mut draft = Draft::new(title, buffer.to_vec(), Vec::new());
     draft.make(Call::Check);
+    draft.mend_exactly();
     draft.make(Call::Event { position: 0 });
     draft.make(Call::FindName { pointer });
     draft.make(Call::Line {

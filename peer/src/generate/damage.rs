@@ -185,7 +185,11 @@ fn entry_kind(chance: &mut Chance, sketch: &mut Sketch) {
 
 fn slot_use(chance: &mut Chance, sketch: &mut Sketch) {
     let index = chance.below(sketch.slots.len());
-    let slot = &mut sketch.slots[index];
+    flip_use(chance, &mut sketch.slots[index]);
+}
+
+/// Makes an unused slot used, or a used one unused, whose other words stay.
+pub fn flip_use(chance: &mut Chance, slot: &mut [u32; 8]) {
     if slot[0] == 0 {
         slot[0] = chance.pick(&[1, 0x0100_0000, u32::MAX]);
         slot[2] = slot[2].max(1);

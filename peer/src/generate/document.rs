@@ -1,7 +1,8 @@
-//! The cases that the documents themselves name: 01's whole case, both sides of each line, and the cut dumps of 02.
+//! The cases that the documents themselves name: 01's whole case, both sides of each line, and the cut dumps and the mending of 02.
 
 use super::cut_cases::{cut_whole, far_ends};
 use super::draft::Draft;
+use super::mend_cases::mend_cases;
 use crate::call::{Call, Registration};
 use crate::case::Case;
 use crate::format::{format, Plan};
@@ -38,6 +39,7 @@ pub fn cases() -> Vec<Case> {
         largest_times(),
     ];
     cases.extend(cut);
+    cases.extend(mend_cases());
     cases
 }
 

@@ -6,6 +6,7 @@ use crate::answers::{answer, Reply};
 use crate::call::Call;
 use crate::case::Case;
 use crate::check::check;
+use crate::layout::Layout;
 use crate::limits::{INIT_POINTER, ISR_POINTER};
 use crate::line::line;
 use crate::listing::listing;
@@ -23,6 +24,7 @@ pub struct Draft {
 /// No line is longer than this.
 const LONGEST_LINE: usize = 640;
 const LARGEST_ROOM: u32 = 1_599_000;
+const LARGEST_ROOM_FOR_COPY: u32 = 65_900;
 
 impl Draft {
     pub fn new(title: &str, buffer: Vec<u8>, pointers: Vec<u32>) -> Draft {
@@ -102,6 +104,23 @@ impl Draft {
         let mut output = vec![0; LONGEST_LINE * self.events()];
         listing(&self.buffer, reading, &mut output).unwrap_or(0)
     }
+
+    pub fn mend(&mut self, chance: &mut Chance) {
+        let room = room_for_copy(chance, self.copy_length());
+        self.make(Call::Mend { room });
+    }
+
+    /// Mends with just enough room.
+    pub fn mend_exactly(&mut self) {
+        let room = self.copy_length();
+        self.make(Call::Mend { room });
+    }
+
+    /// The length of a mended copy; the buffer's own where the dump is refused, so that a change to it can be accepted.
+    fn copy_length(&self) -> u32 {
+        let length = Layout::of_cut(&self.buffer).map_or(self.buffer.len(), |layout| layout.end());
+        LARGEST_ROOM_FOR_COPY.min(length as u32)
+    }
 }
 
 fn position(chance: &mut Chance, events: usize) -> usize {
@@ -127,4 +146,18 @@ fn room(chance: &mut Chance, needed: usize) -> u32 {
         12 if chance.one_in(20) => LARGEST_ROOM,
         _ => needed + chance.below(300) as u32,
     }
+}
+
+/// Room for a copy of the length: exact, too small by one or more, none, or plenty.
+fn room_for_copy(chance: &mut Chance, needed: u32) -> u32 {
+    let room = match chance.below(16) {
+        0..=6 => needed,
+        7..=9 => needed.saturating_sub(1),
+        10 => needed + 1,
+        11 => 0,
+        12 => chance.below(needed as usize) as u32,
+        13 if chance.one_in(10) => LARGEST_ROOM_FOR_COPY,
+        _ => needed + chance.below(300) as u32,
+    };
+    room.min(LARGEST_ROOM_FOR_COPY)
 }

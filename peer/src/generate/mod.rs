@@ -6,6 +6,8 @@ pub mod cut_cases;
 pub mod damage;
 pub mod document;
 pub mod draft;
+pub mod mend_cases;
+pub mod mending;
 pub mod microseconds;
 pub mod names;
 pub mod readings;
@@ -44,7 +46,7 @@ impl Generator {
     }
 
     pub fn next_case(&mut self) -> Case {
-        let mut case = match self.chance.below(215) {
+        let mut case = match self.chance.below(242) {
             0..=31 => reads::sound_dump(self),
             32..=43 => reads::many_threads(self),
             44..=93 => reads::damaged_once(self),
@@ -58,7 +60,10 @@ impl Generator {
             166..=169 => microseconds::at_the_limit(self),
             170..=192 => writes::history(self),
             193..=200 => writes::registry(self),
-            _ => writes::formatting(self),
+            201..=214 => writes::formatting(self),
+            215..=226 => mending::one_harm(self),
+            227..=238 => mending::several_harms(self),
+            _ => mending::harms_and_refusal(self),
         };
         self.made += 1;
         case.title = format!("{} {}", self.made, case.title);

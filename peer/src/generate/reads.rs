@@ -27,6 +27,9 @@ pub fn sound_dump(generator: &mut Generator) -> Case {
     }
     draft.listing(chance, &mut generator.readings);
     if chance.one_in(3) {
+        draft.mend(chance);
+    }
+    if chance.one_in(3) {
         writes::any_write(chance, &mut draft);
         draft.listing(chance, &mut generator.readings);
     }
@@ -105,10 +108,13 @@ fn measure_for(chance: &mut Chance, numbers: &[u32]) -> Measure {
     measure
 }
 
-/// A check and a few other calls of any kind.
+/// A check, often a mending, and a few other calls of any kind.
 fn few_calls(generator: &mut Generator, draft: &mut Draft) {
     let chance = &mut generator.chance;
     draft.check();
+    if chance.one_in(2) {
+        draft.mend(chance);
+    }
     for _ in 0..chance.between(2, 4) {
         match chance.below(9) {
             0 | 1 => draft.event(chance),
@@ -208,6 +214,7 @@ pub fn filled(generator: &mut Generator) -> Case {
     }
     let mut draft = Draft::new("filled", buffer, pointers);
     draft.check();
+    draft.mend(chance);
     draft.event(chance);
     draft.find_name(chance);
     draft.line(chance);

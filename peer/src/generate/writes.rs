@@ -120,7 +120,7 @@ pub fn history(generator: &mut Generator) -> Case {
 
 fn history_step(generator: &mut Generator, draft: &mut Draft, mask: u32, time: &mut u64) {
     let chance = &mut generator.chance;
-    match chance.below(16) {
+    match chance.below(17) {
         0..=7 => {
             *time += true_gap(chance, mask);
             record(chance, draft, *time as u32);
@@ -129,6 +129,7 @@ fn history_step(generator: &mut Generator, draft: &mut Draft, mask: u32, time: &
         11..=12 => remove(chance, draft),
         13 => draft.check(),
         14 => draft.find_name(chance),
+        15 => draft.mend(chance),
         _ => draft.listing(chance, &mut generator.readings),
     }
 }

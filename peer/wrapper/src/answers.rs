@@ -41,6 +41,24 @@ pub struct Event<'dump> {
     pub name: Option<&'dump [u8]>,
 }
 
+/// The length of a mended copy, and what was mended.
+#[derive(Clone, Copy, Debug, PartialEq, Eq)]
+pub struct Mended {
+    pub length: usize,
+    /// Slots zeroed as missing, or partly missing.
+    pub missing: usize,
+    /// 1 where current was bad and became the start.
+    pub current: usize,
+    /// Entries freed for a type that is not allowed.
+    pub types: usize,
+    /// Used slots zeroed for the id 0.
+    pub ids: usize,
+    /// 1 where the used slots were packed.
+    pub packed: usize,
+    /// Used slots whose index packing changed.
+    pub moved: usize,
+}
+
 fn unless_refused<T>(number: u32, place: usize, given: impl FnOnce() -> T) -> Result<T, Refusal> {
     match number {
         0 => Ok(given()),
@@ -65,6 +83,18 @@ pub(crate) fn checked(answer: raw::Checked) -> Result<Checked, Refusal> {
         buffer_end: answer.buffer_end,
         current: answer.current,
         events: answer.events,
+    })
+}
+
+pub(crate) fn mended(answer: raw::Mended) -> Result<Mended, Refusal> {
+    unless_refused(answer.refusal, answer.place, || Mended {
+        length: answer.length,
+        missing: answer.missing,
+        current: answer.current,
+        types: answer.types,
+        ids: answer.ids,
+        packed: answer.packed,
+        moved: answer.moved,
     })
 }
 

@@ -9,7 +9,7 @@ mod answers;
 mod readers;
 mod writers;
 
-pub use answers::{Checked, Context, Event, Refusal};
+pub use answers::{Checked, Context, Event, Mended, Refusal};
 pub use raw::{Format, Object, Reading, Slot};
-pub use readers::{check, event, find_name, line, listing, number};
+pub use readers::{check, event, find_name, line, listing, mend, number};
 pub use writers::{format, record, register, remove};

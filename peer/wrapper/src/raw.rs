@@ -67,6 +67,21 @@ pub struct Name {
     pub length: usize,
 }
 
+/// The copy's length, and what was mended, in six counts.
+#[repr(C)]
+#[derive(Clone, Copy, Debug, Default, PartialEq, Eq)]
+pub struct Mended {
+    pub refusal: u32,
+    pub place: usize,
+    pub length: usize,
+    pub missing: usize,
+    pub current: usize,
+    pub types: usize,
+    pub ids: usize,
+    pub packed: usize,
+    pub moved: usize,
+}
+
 /// What a listing goes by: the clock rate in Hz, the unit number and the first serial.
 #[repr(C)]
 #[derive(Clone, Copy, Debug, Default, PartialEq, Eq)]
@@ -119,6 +134,12 @@ extern "C" {
         out_length: usize,
     ) -> Answer;
     pub fn lepsaino_number(out: *mut u8, out_length: usize, number: u64) -> usize;
+    pub fn lepsaino_mend(
+        dump: *const u8,
+        dump_length: usize,
+        copy: *mut u8,
+        copy_length: usize,
+    ) -> Mended;
     pub fn lepsaino_format(buffer: *mut u8, buffer_length: usize, format: Format) -> Answer;
     pub fn lepsaino_record(buffer: *mut u8, buffer_length: usize, slot: Slot) -> Answer;
     pub fn lepsaino_register(

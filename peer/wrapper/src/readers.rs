@@ -1,6 +1,6 @@
 //! The calls that read a dump.
 
-use crate::answers::{self, Checked, Event, Refusal};
+use crate::answers::{self, Checked, Event, Mended, Refusal};
 use crate::raw::{self, Reading};
 
 /// Checks a dump: 1 to 7, 26, 8, 9, 26, 10 to 13.
@@ -56,6 +56,14 @@ pub fn listing(dump: &[u8], reading: Reading, out: &mut [u8]) -> Result<usize, R
             out.as_mut_ptr(),
             out.len(),
         )
+    })
+}
+
+/// A mended copy of the dump at the front of the second buffer, and what was mended: checks 1 to 9 with 26 at the registry end, then 16.
+pub fn mend(dump: &[u8], copy: &mut [u8]) -> Result<Mended, Refusal> {
+    // SAFETY: the second buffer is borrowed for this call alone, so that it may be written and does not overlap the dump.
+    answers::mended(unsafe {
+        raw::lepsaino_mend(dump.as_ptr(), dump.len(), copy.as_mut_ptr(), copy.len())
     })
 }
 

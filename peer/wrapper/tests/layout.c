@@ -33,6 +33,16 @@ static void answers(void)
     FIELD(name, named);
     FIELD(name, at);
     FIELD(name, length);
+    SIZE(mended);
+    FIELD(mended, refusal);
+    FIELD(mended, place);
+    FIELD(mended, length);
+    FIELD(mended, missing);
+    FIELD(mended, current);
+    FIELD(mended, types);
+    FIELD(mended, ids);
+    FIELD(mended, packed);
+    FIELD(mended, moved);
 }
 
 static void events(void)

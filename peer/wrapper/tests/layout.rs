@@ -26,6 +26,7 @@ fn from_rust() -> String {
         layout!("checked", Checked, refusal place big id mask base registry_start name_size
             registry_end buffer_start buffer_end current events),
         layout!("name", Name, refusal place named at length),
+        layout!("mended", Mended, refusal place length missing current types ids packed moved),
         layout!("slot", Slot, pointer field id stamp first second third fourth),
         layout!("event", Event, refusal place slot ticks context named name_at name_length),
         layout!("reading", Reading, rate unit serial),

@@ -5,29 +5,26 @@ use borrow.Author.Needs.{needs}
 use Rattle.lepsaino.proofs.list_file.Statement.{statement}
 use Rattle.lepsaino.proofs.list_file.Tie as tie
 
-slice-aggregate-read-all : tie.Need-slice-aggregate-read-all
-slice-aggregate-read-all c = search needs
+slice-aggregate-read-file : tie.Need-slice-aggregate-read-file
+slice-aggregate-read-file c = search needs
 
-read-all-requires : tie.Need-read-all-requires
-read-all-requires c κs = search needs
-
-enum-told : tie.Need-enum-told
-enum-told c = search needs
-
-fail-requires : tie.Need-fail-requires
-fail-requires c κs = search needs
+read-file-requires : tie.Need-read-file-requires
+read-file-requires c κs = search needs
 
 enum-known-n : tie.Need-enum-known-n
 enum-known-n c = search needs
 
 array-share-prefix-space : tie.Need-array-share-prefix-space
-array-share-prefix-space c = rw (c .before .n .given .1) at (c .before .before .before .before .read-all .ensures)
+array-share-prefix-space c = rw (c .before .n .given .1) at (c .before .before .before .before .read-file .ensures)
 
 slice-aggregate-print-listing : tie.Need-slice-aggregate-print-listing
-slice-aggregate-print-listing c = sym (length-take-le _ _ (rw (c .before .before .n .given .1) at (c .before .before .before .before .before .read-all .ensures)))
+slice-aggregate-print-listing c = sym (length-take-le _ _ (rw (c .before .before .n .given .1) at (c .before .before .before .before .before .read-file .ensures)))
 
 print-listing-requires : tie.Need-print-listing-requires
 print-listing-requires c κs = search needs
+
+enum-told : tie.Need-enum-told
+enum-told c = search needs
 
 returns : tie.Need-returns
 returns c = search needs
@@ -39,13 +36,12 @@ pub list-file-spec : {M : Type 1} → statement M
 list-file-spec =
     tie.close
     (tie.spec
-    slice-aggregate-read-all
-    read-all-requires
-    enum-told
-    fail-requires
+    slice-aggregate-read-file
+    read-file-requires
     enum-known-n
     array-share-prefix-space
     slice-aggregate-print-listing
     print-listing-requires
+    enum-told
     returns
     returns-2)

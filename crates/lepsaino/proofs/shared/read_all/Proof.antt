@@ -1,11 +1,11 @@
--- `lepsaino::read_all` meets its contract, and ends: each turn reads some bytes.
+-- `lepsaino::shared::read_all` meets its contract, and ends: each turn reads some bytes.
 use Prim.Native.Nat.{_-_, _≤_}
 use mathlib.Core.Path.{_≡_, refl}
 use native.Mathlib.Omega.{arith}
 use lib.ListN.{length}
 use borrow.Author.Needs.{needs}
-use Rattle.lepsaino.proofs.read_all.Statement.{statement}
-use Rattle.lepsaino.proofs.read_all.Tie as tie
+use Rattle.lepsaino.proofs.shared.read_all.Statement.{statement}
+use Rattle.lepsaino.proofs.shared.read_all.Tie as tie
 
 abbrev Inv-loop : tie.InvT-loop
 Inv-loop file space₀ done₀ space done = (length space ≡ length space₀) × (done ≤ length space)

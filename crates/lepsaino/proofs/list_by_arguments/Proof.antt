@@ -1,8 +1,8 @@
--- `lepsaino::main` is safe: rate and unit have 32 bits.
+-- `lepsaino::list_by_arguments` is safe: rate and unit have 32 bits.
 use native.Mathlib.Omega.{arith}
 use borrow.Author.Needs.{needs}
-use Rattle.lepsaino.proofs.main.Statement.{statement}
-use Rattle.lepsaino.proofs.main.Tie as tie
+use Rattle.lepsaino.proofs.list_by_arguments.Statement.{statement}
+use Rattle.lepsaino.proofs.list_by_arguments.Tie as tie
 
 arg-count-requires : tie.Need-arg-count-requires
 arg-count-requires c κs = search needs
@@ -82,8 +82,8 @@ list-with-requires c κs = search needs
 returns-5 : tie.Need-returns-5
 returns-5 c = search needs
 
-pub main-spec : {M : Type 1} → statement M
-main-spec =
+pub list-by-arguments-spec : {M : Type 1} → statement M
+list-by-arguments-spec =
     tie.close
     (tie.spec
     arg-count-requires

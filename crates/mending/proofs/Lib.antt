@@ -1,0 +1,11 @@
+pub mod Copied
+pub mod Cut
+pub mod Each
+pub mod Headers
+pub mod Opened
+pub mod Packed
+pub mod Registry
+pub mod Slots
+pub mod Sound
+pub mod Turned
+pub mod Whole
