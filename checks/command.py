@@ -376,6 +376,12 @@ PROGRAM = "#!/bin/sh\nprintf '{}\\n'\n"
 WAITS = b"lepsaino: another use is building the program; this one waits\n"
 
 
+def heed():
+    """A step before a command: the signals that stop it are not ignored, as they are in what a shell starts with &."""
+    for number in (signal.SIGINT, signal.SIGTERM, signal.SIGHUP):
+        signal.signal(number, signal.SIG_DFL)
+
+
 class StandIn:
     """A root with the script and stand-ins for the toolchain and the program."""
 
@@ -401,9 +407,10 @@ class StandIn:
         return path.read_text().count("call") if path.exists() else 0
 
     def start(self, *arguments):
-        """A use in a process group of its own."""
+        """A use in a process group of its own, which a signal ends even where these checks run with signals ignored."""
         pipes = dict(stdin=subprocess.DEVNULL, stdout=subprocess.PIPE, stderr=subprocess.PIPE)
-        return subprocess.Popen([self.root / "lepsaino", *arguments], env=self.env, cwd=self.root, start_new_session=True, **pipes)
+        own = dict(env=self.env, cwd=self.root, start_new_session=True, preexec_fn=heed)
+        return subprocess.Popen([self.root / "lepsaino", *arguments], **own, **pipes)
 
     def building(self, *arguments):
         """A first use that builds and goes on when there is a file `go`."""
