@@ -18,7 +18,7 @@ use Rattle.lepsaino_c.specs.Answers.{GaveNumbers, answerOf, checkAnswer, eventA
 use Rattle.lepsaino_c.specs.declared.answers.Answer.{Answer}
 use Rattle.mending.specs.Mending.{mendOf, mendedTold}
 use Rattle.rows.specs.Rows.{Accepted, Row, firstBroken}
-use Rattle.trace.specs.Check.{checkOf, checkedTold, orderNumber}
+use Rattle.trace.specs.Check.{checkOf, checkedTold, headerNumbers, orderNumber}
 use Rattle.trace.specs.Names.{findName, foundTold, nameFound, nameNumbers}
 use Rattle.trace.specs.declared.Found.{Found}
 use Rattle.trace.specs.declared.Found.the-variants as found
@@ -53,6 +53,7 @@ interface-gives = record {
   «find_name» = λ κs a p. p .allowed;
   line = λ κs a p. (_, p .allowed .answered, p .allowed .gave);
   listing = λ κs a p. (_, p .allowed .answered, p .allowed .gave);
+  number = λ κs a p. p .allowed;
   format = λ κs a p. (_, p .allowed .0, (refl, p .allowed .1));
   «record» = λ κs a p. (_, p .allowed .0, (refl, p .allowed .1));
   register = λ κs a p. (_, p .allowed .0, (refl, p .allowed .1));
@@ -93,8 +94,22 @@ order-back Big = refl
 order-back Little = refl
 
 pub structs : Structs
-unfolding mendAnswer mendedTold
-structs = record { answer = λ f. refl; name = λ f. refl; check = λ f. refl; event = λ f. refl; mend = λ f. refl; copied = λ n r. refl; order = order-back }
+unfolding checkAnswer eventAnswer nameAnswer listedAnswer outcomeAnswer mendAnswer checkedTold shownTold foundTold listedTold outcomeTold mendedTold headerNumbers eventNumbers slotNumbers nameNumbers
+structs = record {
+  answer = λ f. refl;
+  name = λ f. refl;
+  check = λ f. refl;
+  event = λ f. refl;
+  mend = λ f. refl;
+  written = λ n. refl;
+  done = λ n. refl;
+  named = λ at length. refl;
+  nameless = refl;
+  sound = λ h n. refl;
+  given = λ e. refl;
+  copied = λ n r. refl;
+  order = order-back;
+}
 
 -- rows of which none is broken have passed
 all-passed : (rows : List Row) → Each Unbroken rows → Accepted rows

@@ -5,9 +5,12 @@ use mathlib.Core.Path.{_≡_}
 use denote.Ref.{now}
 use lib.ListN.{length}
 use Rattle.demands.specs.Refusals.{Refuses, RefusesAndKeeps}
-use Rattle.events.specs.Events.{eventOf}
+use Rattle.events.specs.Events.{contextNumber, eventOf}
 use Rattle.events.specs.Listing.{Gave, lineAt, lineRows, listingRows, listingText}
+use Rattle.events.specs.declared.Event.{Event}
+use Rattle.events.specs.declared.Listed.the-variants.{Written}
 use Rattle.events.specs.declared.Reading.{Reading}
+use Rattle.events.specs.declared.Shown.the-variants.{Given}
 use Rattle.lepsaino_c.proofs as calls
 use Rattle.lepsaino_c.specs.Answers.{GaveNumbers, answerOf, checkAnswer, checkAnswerOf, eventAnswer, eventAnswerOf, formatGiven, listedAnswer, mendAnswer, mendAnswerOf, nameAnswer, nameAnswerOf, orderGiven, outcomeAnswer}
 use Rattle.lepsaino_c.specs.declared.answers.Answer.{Answer}
@@ -17,15 +20,22 @@ use Rattle.mending.specs.declared.Repairs.{Repairs}
 use Rattle.rows.specs.Rows.{Accepted, Row}
 use Rattle.rows.specs.Told.{Told, toldRefusal}
 use Rattle.rows.specs.declared.Refusal.{Refusal}
+use Rattle.text.specs.Numbers.{number}
+use Rattle.text.specs.Output.{Put, printed}
 use Rattle.trace.specs.Check.{checkOf, orderNumber}
 use Rattle.trace.specs.Layout.{headerOf}
 use Rattle.trace.specs.Names.{findName}
 use Rattle.trace.specs.Table.{dumpRows, eventRows, registryRows}
+use Rattle.trace.specs.declared.Checked.the-variants.{Sound}
+use Rattle.trace.specs.declared.Found.the-variants.{Searched}
+use Rattle.trace.specs.declared.Header.{Header}
+use Rattle.trace.specs.declared.Name.the-variants.{Named, Nameless}
 use Rattle.trace.specs.declared.Slot.{Slot}
 use Rattle.words.specs.declared.Order.{Order}
 use Rattle.writing.specs.Writing.{formatting, recording, registering, removing, said}
 use Rattle.writing.specs.declared.Format.{Format}
 use Rattle.writing.specs.declared.Object.{Object}
+use Rattle.writing.specs.declared.Outcome.the-variants.{Done}
 use Rattle.contracts.specs.Calls.{Allows, Changed, Mended}
 use Rattle.contracts.specs.Settled.{Settled}
 
@@ -57,6 +67,9 @@ pub record InterfaceGives : Type 0 where
   pub listing : Allows calls.«lepsaino_listing».ended calls.«lepsaino_listing».Reads.Learnt (λ κs a x last.
       let s = now (a .0) in let reading = a .1 .0 in let old = now (a .1 .1 .0) in let new = last .1 .1 .0 in
       InNumbers listedAnswer (Gave (listingRows s (headerOf s) reading (length old)) (listingText s (headerOf s) reading) old new) x)
+  pub number : Allows calls.«lepsaino_number».ended calls.«lepsaino_number».Reads.Learnt (λ κs a x last.
+      let old = now (a .0) in
+      Put (printed (number (a .1 .0)) old) old (last .0) x)
   pub format : Allows calls.«lepsaino_format».ended calls.«lepsaino_format».Reads.Learnt (λ κs a x last.
       InNumbers outcomeAnswer (Changed (formatting (formatGiven (a .1 .0))) (now (a .0)) (last .0)) x)
   pub «record» : Allows calls.«lepsaino_record».ended calls.«lepsaino_record».Reads.Learnt (λ κs a x last.
@@ -109,7 +122,7 @@ pub record InterfaceRefuses : Type 0 where
       let s = now (a .0) in let old = now (a .1 .0) in let new = last .1 .0 in
       TellsAndKeeps mendAnswerOf (mendingRows s (headerOf s) (length old)) old new x)
 
--- what the structs are in a refusal: the number, the place, and 0 for all else; and a byte order that was told is given back as that order
+-- what the structs are: in a refusal the number, the place, and 0 for all else; in an acceptance what is given, each under its own name; and a byte order that was told is given back as that order
 pub record Structs : Type 0 where
   pub answer : (f : Refusal) → answerOf (toldRefusal f) ≡ record { refusal = f .number; place = f .place; value = 0 }
   pub name : (f : Refusal) → nameAnswerOf (toldRefusal f) ≡ record { refusal = f .number; place = f .place; named = 0; at = 0; length = 0 }
@@ -145,7 +158,39 @@ pub record Structs : Type 0 where
   pub mend : (f : Refusal)
       → mendAnswerOf (toldRefusal f)
       ≡ record { refusal = f .number; place = f .place; length = 0; missing = 0; current = 0; types = 0; ids = 0; packed = 0; moved = 0 }
-  -- what mending gives stands under its own names
+  pub written : (n : ℕ) → listedAnswer (Written n) ≡ record { refusal = 0; place = 0; value = n }
+  pub done : (n : ℕ) → outcomeAnswer (Done n) ≡ record { refusal = 0; place = 0; value = n }
+  pub named : (at length : ℕ) → nameAnswer (Searched (Named at length)) ≡ record { refusal = 0; place = 0; named = 1; at = at; length = length }
+  pub nameless : nameAnswer (Searched Nameless) ≡ record { refusal = 0; place = 0; named = 0; at = 0; length = 0 }
+  pub sound : (h : Header) (n : ℕ)
+      → checkAnswer (Sound h n)
+      ≡ record {
+        refusal = 0;
+        place = 0;
+        big = orderNumber (h .order);
+        id = h .id;
+        mask = h .mask;
+        base = h .base;
+        «registry_start» = h .«registry_start»;
+        «name_size» = h .«name_size»;
+        «registry_end» = h .«registry_end»;
+        «buffer_start» = h .«buffer_start»;
+        «buffer_end» = h .«buffer_end»;
+        current = h .current;
+        events = n;
+      }
+  pub given : (e : Event)
+      → eventAnswer (Given e)
+      ≡ record {
+        refusal = 0;
+        place = 0;
+        slot = e .slot;
+        ticks = e .ticks;
+        context = contextNumber (e .by);
+        named = nameAnswer (Searched (e .name)) .named;
+        «name_at» = nameAnswer (Searched (e .name)) .at;
+        «name_length» = nameAnswer (Searched (e .name)) .length;
+      }
   pub copied : (n : ℕ) (r : Repairs)
       → mendAnswer (Copied n r)
       ≡ record { refusal = 0; place = 0; length = n; missing = r .missing; current = r .current; types = r .types; ids = r .ids; packed = r .packed; moved = r .moved }
