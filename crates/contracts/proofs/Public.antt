@@ -142,6 +142,9 @@ library = record {
   mender = record {
     mend = leaves (λ κs a x e p. p) (λ κs a v w e i. (tt, (e i, tt)));
   };
+  arguments = record {
+    «number_in» = equation (λ κs a v w. refl);
+  };
   console = record {
     «word_at» = equation (λ κs a v w. refl);
     «number_at» = equation (λ κs a v w. refl);

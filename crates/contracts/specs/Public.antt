@@ -4,6 +4,7 @@
 use Prim.Native.Nat.{ℕ}
 use mathlib.Core.List.{List}
 use denote.Ref.{RefT}
+use Rattle.arguments.proofs as arguments
 use Rattle.console.proofs as console
 use Rattle.doubles.proofs as doubles
 use Rattle.dump.proofs as dump
@@ -125,6 +126,9 @@ pub record Formatter : Type 0 where
 pub record Mender : Type 0 where
   pub mend : Settled mender.mend.ended mender.mend.Reads.Asked mender.mend.Reads.Learnt
 
+pub record Arguments : Type 0 where
+  pub «number_in» : Settled arguments.«number_in».ended arguments.«number_in».Reads.Asked arguments.«number_in».Reads.Learnt
+
 -- what the programs share, but for the functions that print or read a file: what a program prints is tested against stored text
 pub record Console : Type 0 where
   pub «word_at» : Settled console.«word_at».ended console.«word_at».Reads.Asked console.«word_at».Reads.Learnt
@@ -149,6 +153,7 @@ pub record Library : Type 0 where
   pub registrar : Registrar
   pub formatter : Formatter
   pub mender : Mender
+  pub arguments : Arguments
   pub console : Console
 
 -- the one exception: the contract of a part that is handed back allows every ghost name

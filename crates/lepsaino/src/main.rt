@@ -1,9 +1,9 @@
 // lepsaino FILE RATE UNIT SERIAL: prints the listing of a dump, or the refusal's number, a space and its place as one line.
 // A usage or file error is one line on standard error, and nothing on standard output. With `mend` first it mends a dump instead.
-mod arguments;
 mod mends;
 mod shared;
 
+use arguments::Argument;
 use arguments::number_in;
 use console::print_front;
 use events::Listed;
@@ -15,19 +15,13 @@ use shared::read_file;
 use shared::say;
 ghost use mathlib.Core.Path.{_≡_};
 ghost use lib.ListN.{length};
-ghost use Rattle.lepsaino.specs.Arguments.{AtMost};
+ghost use Rattle.arguments.specs.Arguments.{AtMost};
 
 // Room for 2,046 events at 774 bytes each, six for each of 64 bytes of a name and 65 more: any listing fits, and none is measured first.
 fn output_space() -> [u8; 1583604]
     ensures { λ r. ⌜ 1583604 ≡ length r ⌝ }
 {
     [0; 1583604]
-}
-
-// A decimal number of its range, or something else.
-enum Argument {
-    Wrong,
-    Number(u64),
 }
 
 fn print_listing(dump: &[u8], reading: Reading) {

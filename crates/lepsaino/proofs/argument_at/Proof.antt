@@ -1,5 +1,5 @@
 -- `lepsaino::argument_at` meets its contract.
-use Rattle.lepsaino.proofs.Digits.{within-most}
+use Rattle.arguments.proofs.Digits.{within-most}
 use borrow.Author.Needs.{needs}
 use Rattle.lepsaino.proofs.argument_at.Statement.{statement}
 use Rattle.lepsaino.proofs.argument_at.Tie as tie

@@ -5,8 +5,8 @@ use mathlib.Core.List.{List, [], _∷_}
 use lib.Dec.{leb}
 use lib.ListN.{length}
 use Rattle.text.specs.ReadBack.{decimal}
-use Rattle.lepsaino.specs.declared.Argument.{Argument}
-use Rattle.lepsaino.specs.declared.Argument.the-variants.{Wrong, Number}
+use Rattle.arguments.specs.declared.Argument.{Argument}
+use Rattle.arguments.specs.declared.Argument.the-variants.{Wrong, Number}
 
 unfoldable pub isDigit : ℕ → Bool
 isDigit b = leb 48 b && leb b 57

@@ -1,7 +1,12 @@
-// Numbers among the program's arguments.
-use crate::Argument;
+// Numbers among a program's arguments.
 ghost use mathlib.Core.Path.{_≡_};
-ghost use Rattle.lepsaino.specs.Arguments.{argumentOf, isDigit};
+ghost use Rattle.arguments.specs.Arguments.{argumentOf, isDigit};
+
+// A decimal number of its range, or something else.
+pub enum Argument {
+    Wrong,
+    Number(u64),
+}
 
 fn is_digit(b: u8) -> bool
     ensures { λ r. ⌜ r ≡ isDigit b ⌝ }

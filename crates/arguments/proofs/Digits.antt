@@ -10,8 +10,8 @@ use lib.Dec.{leb}
 use lib.ListN.{length, drop, getD, drop-of-length-le}
 use lib.Seq.{drop-cons}
 use Rattle.text.specs.ReadBack.{decimal, decimalAfter}
-use Rattle.lepsaino.specs.Arguments.{AtMost, allDigits, argumentOf, isDigit}
-use Rattle.lepsaino.specs.declared.Argument.the-variants.{Number, Wrong}
+use Rattle.arguments.specs.Arguments.{AtMost, allDigits, argumentOf, isDigit}
+use Rattle.arguments.specs.declared.Argument.the-variants.{Number, Wrong}
 
 both-true : (a b : Bool) → (a && b) ≡ true → (a ≡ true) × (b ≡ true)
 both-true true b e = (refl, e)

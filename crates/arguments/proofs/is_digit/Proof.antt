@@ -1,8 +1,8 @@
--- `lepsaino::arguments::is_digit` meets its contract.
-use Rattle.lepsaino.specs.Arguments.{isDigit}
+-- `arguments::is_digit` meets its contract.
+use Rattle.arguments.specs.Arguments.{isDigit}
 use borrow.Author.Needs.{needs}
-use Rattle.lepsaino.proofs.arguments.is_digit.Statement.{statement}
-use Rattle.lepsaino.proofs.arguments.is_digit.Tie as tie
+use Rattle.arguments.proofs.is_digit.Statement.{statement}
+use Rattle.arguments.proofs.is_digit.Tie as tie
 
 both-requires : tie.Need-both-requires
 both-requires c κs = search needs

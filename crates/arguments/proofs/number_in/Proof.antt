@@ -1,13 +1,13 @@
--- `lepsaino::arguments::number_in` meets its contract, digit by digit.
+-- `arguments::number_in` meets its contract, digit by digit.
 use Prim.Native.Nat.{_-_, _≤_}
 use mathlib.Core.Path.{sym, _∙_}
 use native.Mathlib.Omega.{arith}
 use lib.ListN.{length, getD}
 use borrow.Author.Needs.{needs}
 use borrow.Author.Tests.{not-false, not-true}
-use Rattle.lepsaino.proofs.Digits.{SoFar, begun, digit-range, not-digit, one-more, right, too-large, wrong-empty}
-use Rattle.lepsaino.proofs.arguments.number_in.Statement.{statement}
-use Rattle.lepsaino.proofs.arguments.number_in.Tie as tie
+use Rattle.arguments.proofs.Digits.{SoFar, begun, digit-range, not-digit, one-more, right, too-large, wrong-empty}
+use Rattle.arguments.proofs.number_in.Statement.{statement}
+use Rattle.arguments.proofs.number_in.Tie as tie
 
 abbrev Inv-loop : tie.InvT-loop
 Inv-loop text most value₀ i₀ value i = (i ≤ length text) × (value ≤ most) × SoFar text value i
