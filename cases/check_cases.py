@@ -1,12 +1,8 @@
-#!/usr/bin/env python3
-"""The dumps on which the program check_cases runs, and what it must print.
+"""The dumps that the program `cases` puts to the check, and what it must print.
 
 Written from document 01 and not from our code: `answer` of dumps.py reads a dump in Python. Each
 named case says by hand the refusal, or the number of events where the dump passes, and the two must
 agree, or nothing is written. The seeded dumps have `answer`'s word alone.
-
-    check_cases.py          writes data/cases and stdout of the crate check_cases
-    check_cases.py --check  says whether they are as this script makes them
 """
 import sys
 
@@ -230,5 +226,3 @@ chance = Chance(2026)
 for index in range(600):
     raw = seeded(chance).bytes(chance.one("<", ">"))
     cases.add(f"seeded {index}", raw, [("c", (), answer(raw))])
-
-cases.keep(__file__)

@@ -6,8 +6,6 @@ buffer's digest, then the reply to each call.
 import struct
 from functools import lru_cache
 
-from made import keep
-
 # What the programs have room for; the room of a call that writes is by its letter.
 MOST_BYTES, MOST_ARGUMENTS, MOST_IN_HEX, MOST_CALLS = 65537, 1024, 1024, 1000
 MOST_ROOM = {"l": 1599000, "a": 1599000, "m": 65900}
@@ -77,8 +75,5 @@ class Cases:
             self.printed.append(f"{reply}\n")
         self.data += b"."
 
-    def keep(self, script):
-        """Keeps the files of the crate that has the script's name."""
-        replies = len(self.printed) - self.count
-        keep(script, {"data/cases": bytes(self.data), "stdout": "".join(self.printed).encode()},
-             f"{self.count} cases, {replies} calls, {len(self.data)} bytes")
+    def told(self, kind):
+        return f"{kind}: {self.count} cases, {len(self.printed) - self.count} calls, {len(self.data)} bytes"

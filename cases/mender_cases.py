@@ -1,13 +1,9 @@
-#!/usr/bin/env python3
-"""The dumps that the program mender_cases mends, and what it must print.
+"""The dumps that the program `cases` mends, and what it must print.
 
 The answers and the copies come from mender.py, which is written from documents 01 and 02 and not from our
 code. A named case also says by hand the refusal, or the six counts and the whole copy, field by field; the
 two must agree, or nothing is written. The seeded cases have mender.py's word alone. Every copy must pass the
 check in dumps.py, and a dump that passes it must be kept.
-
-    mender_cases.py          writes data/cases and stdout of the crate mender_cases
-    mender_cases.py --check  says whether they are as this script makes them
 """
 import sys
 from collections import namedtuple
@@ -664,5 +660,3 @@ chance = Chance(2029)
 for index in range(300):
     made = seeded(index, chance)
     add(made, chance.one(*WORDS), made.name, cases)
-
-cases.keep(__file__)

@@ -1,13 +1,9 @@
-#!/usr/bin/env python3
-"""The questions that the program reader_cases puts to the reader, and what it must print.
+"""The questions that the program `cases` puts to the reader, and what it must print.
 
 The answers come from reader.py, which is written from document 01 and not from our code. A named case
 also says by hand what must come, whole or in part, and the two must agree, or nothing is written. The
 seeded cases have reader.py's word alone. Every line is read by Python's JSON parser, and must give the
 values that it was made of.
-
-    reader_cases.py          writes data/cases and stdout of the crate reader_cases
-    reader_cases.py --check  says whether they are as this script makes them
 """
 import json
 import sys
@@ -582,5 +578,3 @@ for index in range(300):
     order = chance.one("<", ">")
     case = seeded(index, chance, order)
     add(case, order, case.name, cases)
-
-cases.keep(__file__)

@@ -1,13 +1,9 @@
-#!/usr/bin/env python3
-"""The calls that the program writer_cases makes on buffers, and what it must print.
+"""The calls that the program `cases` makes on buffers, and what it must print.
 
 The answers and the bytes come from writer.py and the listings from reader.py, which are written from
 document 01 and not from our code. A named case also says by hand what each call must answer, and mostly
 the dump that must be left, field by field; the two must agree, or nothing is written. The seeded cases
 have the two modules' word alone.
-
-    writer_cases.py          writes data/cases and stdout of the crate writer_cases
-    writer_cases.py --check  says whether they are as this script makes them
 """
 import json
 import sys
@@ -578,5 +574,3 @@ chance = Chance(2028)
 for index in range(300):
     history = seeded(index, chance)
     add(history, chance.one(*WORDS), history.name, cases)
-
-cases.keep(__file__)

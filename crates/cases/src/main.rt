@@ -1,0 +1,7 @@
+// Answers four files of cases: dumps put to the check, questions to the reader, calls that write, dumps that are mended.
+fn main() {
+    replies::answer_file(b"check");
+    replies::answer_file(b"reader");
+    replies::answer_file(b"writer");
+    replies::answer_file(b"mender");
+}
