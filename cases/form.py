@@ -76,4 +76,5 @@ class Cases:
         self.data += b"."
 
     def told(self, kind):
+        """A line on what was made."""
         return f"{kind}: {self.count} cases, {len(self.printed) - self.count} calls, {len(self.data)} bytes"
