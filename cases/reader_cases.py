@@ -14,7 +14,7 @@ from dumps import (ALARM, INIT, ISR, OF_THE_HEADER, PUMP, VALVE, WORDS, Dump, Re
 from form import Cases, written
 from made import Chance
 from reader import Reading, find_name, listing, one_event, one_line, read_events, read_fields
-from texts import BARE, CONTEXTS, DOCUMENT, line, name, read_back
+from texts import CONTEXTS, DOCUMENT, LIMIT, line, name, read_back
 
 TWO_40 = 1 << 40
 LAST = (1 << 64) - 1
@@ -331,14 +331,33 @@ def rates():
     an_event("rate 1, far, event 11", far, 11, dict(ticks=[47244640245]))
 
 
+def nearest_microseconds():
+    """No rate turns ticks that a dump can have into 2^53 - 1, 2^53 or 2^53 + 1 microseconds; these come nearest."""
+    widest = 4294967295
+    most = 2045 * widest
+    bare, quoted = [], []
+    for rate in range(1, 1001):
+        first = -(-LIMIT * rate // 1000000)
+        last = min(first - 1, most)
+        bare.append((last * 1000000 // rate, rate, last))
+        if first <= most:
+            quoted.append((first * 1000000 // rate, rate, first))
+    assert max(bare)[0] == 9007199254740990 and min(quoted) == (9007199254740994, 583, 5251197165514)
+    assert (9007199254740990, 444, 3999196469105) in bare and most * 1000000 // 1000 < 9007199254740990
+    for rate, ticks, us in ((444, 3999196469105, 9007199254740990), (583, 5251197165514, "9007199254740994")):
+        steps, rest = divmod(ticks, widest)
+        dump = stamped(*[-i % 2**32 for i in range(steps + 1)], (rest - steps) % 2**32, mask=0xFFFFFFFF)
+        a_line(f"microseconds: {us} at rate {rate}", dump, steps + 1, dict(ticks=[ticks], us=[us]), Reading(rate, 0, 0))
+
+
 def keys():
     two = stamped(1, 2)
     one = stamped(1)
     each("key: unit 0", two, Reading(1, 0, 0), key=[0, 1])
     each("key: unit 1", two, Reading(1, 1, 5), key=[1099511627781, 1099511627782])
     each("key: unit 8191", two, Reading(1, 8191, 0), key=[9006099743113216, 9006099743113217])
-    each("key: unit 8191, last serials", two, Reading(1, 8191, TWO_40 - 2), key=[9007199254740990, 9007199254740991])
-    each("key: unit 8192", two, Reading(1, 8192, 0), key=[BARE, "9007199254740993"])
+    each("key: 2^53 - 2 and 2^53 - 1, unit 8191", two, Reading(1, 8191, TWO_40 - 2), key=[9007199254740990, 9007199254740991])
+    each("key: 2^53 and 2^53 + 1, unit 8192", two, Reading(1, 8192, 0), key=["9007199254740992", "9007199254740993"])
     each("key: unit 16777215", two, Reading(1, 16777215, 0), key=["18446742974197923840", "18446742974197923841"])
     each("key: unit 16777215, last serial", one, Reading(1, 16777215, TWO_40 - 1), key=["18446744073709551615"])
     each("key: serial 1099511627775, one event", one, Reading(1, 0, 1099511627775), key=[1099511627775])
@@ -558,7 +577,7 @@ def add(case, order, title, cases):
     cases.add(title, raw, [(case.kind, given_to(case, room), given)])
 
 
-GROUPS = (whole_case, rings, contexts, neighbours, registries, names, finding, times, rates, keys, refusals, orders,
+GROUPS = (whole_case, rings, contexts, neighbours, registries, names, finding, times, rates, nearest_microseconds, keys, refusals, orders,
           rooms, positions)
 cases = Cases()
 for group in GROUPS:

@@ -11,25 +11,28 @@ give the case's own values.
 import struct
 
 from made import Chance, keep
-from texts import BARE, DOCUMENT, line, name, number, read_back
+from texts import DOCUMENT, LIMIT, line, name, number, read_back
 
 MOST = (1 << 64) - 1
 
 NUMBERS = [9, 10, 99, 100, 101, 4294967295, 4294967296]
 NUMBERS += [n for k in range(20) for n in (10**k - 1, 10**k)]
-NUMBERS += [BARE - 1, BARE, BARE + 1, BARE + 2, BARE + 3, 1 << 63, MOST - 2048, MOST - 1024, MOST - 1023, MOST]
+NUMBERS += [LIMIT - 1, LIMIT, LIMIT + 1, LIMIT + 2, LIMIT + 3, 1 << 63, MOST - 2048, MOST - 1024, MOST - 1023, MOST]
 
 WHOLE_CASE = [
-    (BARE, 0, 0, 5, 536875008, 2, 16, (1, 2, 3, 4), b"pump"),
-    (BARE + 1, 56, 18, 1025, 4294967295, 1, 536875008, (0, 0, 0, 0), b"pump"),
-    (BARE + 2, 56, 18, 6, 536879104, 2, 16, (7, 0, 0, 0), None),
+    (LIMIT, 0, 0, 5, 536875008, 2, 16, (1, 2, 3, 4), b"pump"),
+    (LIMIT + 1, 56, 18, 1025, 4294967295, 1, 536875008, (0, 0, 0, 0), b"pump"),
+    (LIMIT + 2, 56, 18, 6, 536879104, 2, 16, (7, 0, 0, 0), None),
 ]
 PLAIN = (1, 2, 3, 4, 5, 2, 6, (7, 8, 9, 10))
 LINES = list(WHOLE_CASE)
 LINES += [PLAIN + (bytes([b]),) for b in range(256)]
 LINES += [PLAIN + (called,) for called in (b"", None, bytes(range(256)), b"\xff" * 64, b'A"\n', b"\\" * 3)]
 LINES += [(n, n, n, 4294967295, 4294967295, by, 4294967295, (4294967295, 0, 4294967295, 0), b"pump")
-          for by in range(3) for n in (0, BARE, BARE + 1, MOST)]
+          for by in range(3) for n in (0, LIMIT - 1, LIMIT, LIMIT + 1, MOST)]
+# The limit as key and as microseconds; each line is named after its case.
+LINES += [case for n, title in ((LIMIT - 1, b"2^53 - 1"), (LIMIT, b"2^53"), (LIMIT + 1, b"2^53 + 1"))
+          for case in ((n, *PLAIN[1:], b"key " + title), (*PLAIN[:2], n, *PLAIN[3:], b"us " + title))]
 
 chance = Chance(2026)
 NUMBERS += [chance.bits(64) for _ in range(1000)]

@@ -148,7 +148,7 @@ struct lepsaino_answer lepsaino_line(const uint8_t *dump, size_t dump_length, st
 /* A line for each event, oldest first, at the front of out: checks 1 to 16. The value is their length; out past it keeps its bytes. */
 struct lepsaino_answer lepsaino_listing(const uint8_t *dump, size_t dump_length, struct lepsaino_reading reading, uint8_t *out, size_t out_length);
 
-/* The text of a number as in a line, at the front of out, and its length: bare digits up to and including 2^53, in quotes above. 0, and nothing written, where there is no room. */
+/* The text of a number as in a line, at the front of out, and its length: bare digits below 2^53, in quotes from there on. 0, and nothing written, where there is no room. */
 size_t lepsaino_number(uint8_t *out, size_t out_length, uint64_t number);
 
 /*

@@ -1,7 +1,5 @@
-// Reads the listing's lines as document 01 prints them, and refuses every line of another form; no number passes through a float before its digits are checked.
+// Reads the listing's lines as document 01 prints them, and refuses every line of another form; no value passes through a float unless that is safe.
 
-// 2^53: Number.isSafeInteger would refuse it, yet its double is exact and document 01 prints it bare, so limits are held against the digits.
-const LARGEST_BARE = "9007199254740992";
 const LARGEST_OF_64_BITS = "18446744073709551615";
 const LARGEST_OF_32_BITS = "4294967295";
 const KEYS_OF_A_UNIT = 1n << 40n;
@@ -230,12 +228,17 @@ function reasonAgainst(digits) {
   return null;
 }
 
+// No other whole number has the double of a safe one, so digits whose double is safe are that number's.
+function isPrintedBare(digits) {
+  return Number.isSafeInteger(Number(digits));
+}
+
 function reasonAgainstBare(digits) {
-  return isAtMost(digits, LARGEST_BARE) ? null : `is bare and above ${LARGEST_BARE}: a float may have changed it`;
+  return isPrintedBare(digits) ? null : `is bare and above ${Number.MAX_SAFE_INTEGER}: a float may have changed it`;
 }
 
 function reasonAgainstQuoted(digits) {
-  if (isAtMost(digits, LARGEST_BARE)) return `is in quotes though not above ${LARGEST_BARE}`;
+  if (isPrintedBare(digits)) return `is in quotes though not above ${Number.MAX_SAFE_INTEGER}`;
   return isAtMost(digits, LARGEST_OF_64_BITS) ? null : "does not fit 64 bits";
 }
 

@@ -10,7 +10,7 @@ const FEWEST_CORPUS_KEYS = 1000;
 const FEWEST_CORPUS_LISTINGS = 100;
 
 const DOCUMENT_LINES = [
-  '{"key":9007199254740992,"ticks":0,"us":0,"id":5,"ptr":536875008,"by":"thread","name":"pump","field":16,"info":[1,2,3,4]}',
+  '{"key":"9007199254740992","ticks":0,"us":0,"id":5,"ptr":536875008,"by":"thread","name":"pump","field":16,"info":[1,2,3,4]}',
   '{"key":"9007199254740993","ticks":56,"us":18,"id":1025,"ptr":4294967295,"by":"isr","name":"pump","field":536875008,"info":[0,0,0,0]}',
   '{"key":"9007199254740994","ticks":56,"us":18,"id":6,"ptr":536879104,"by":"thread","name":null,"field":16,"info":[7,0,0,0]}',
 ];
@@ -28,7 +28,7 @@ const unquotedKeys = (text) => text.replace(/"key":"([0-9]+)"/g, '"key":$1');
 
 /** An event as document 01 prints it: an accepted text must be this one, so nothing else is accepted and nothing is lost. */
 function printed(event) {
-  const number = (value) => (value <= 2n ** 53n ? `${value}` : `"${value}"`);
+  const number = (value) => (value < 2n ** 53n ? `${value}` : `"${value}"`);
   const escape = (character) => (/["\\]/.test(character) ? `\\${character}` : `\\u00${character.charCodeAt(0).toString(16).padStart(2, "0")}`);
   const name = event.name === null ? "null" : `"${event.name.replace(/["\\]|[^ -~]/g, escape)}"`;
   return line({
@@ -81,14 +81,16 @@ test("keys on both sides of each limit", () => {
   const read = (key) => readLine(line({ key })).key;
   assert.equal(read("0"), 0n);
   assert.equal(read("9007199254740991"), 2n ** 53n - 1n);
-  assert.equal(read("9007199254740992"), 2n ** 53n);
+  assert.equal(read('"9007199254740992"'), 2n ** 53n);
   assert.equal(read('"9007199254740993"'), 2n ** 53n + 1n);
   assert.equal(read('"18446744073709551615"'), 2n ** 64n - 1n);
   const not = (key, reason) => refuses(line({ key }), reason, columnOf(line(), "7,"));
-  not('"9007199254740991"', /in quotes though not above/);
-  not('"9007199254740992"', /in quotes though not above/);
+  not('"9007199254740990"', /in quotes though not above/);
+  not('"9007199254740991"', /in quotes though not above 9007199254740991/);
+  not("9007199254740992", /bare and above 9007199254740991/);
   not("9007199254740993", /bare and above/);
   not("18446744073709551615", /bare and above/);
+  not("9".repeat(400), /bare and above/);
   not('"18446744073709551616"', /does not fit 64 bits/);
   not(`"${"9".repeat(100000)}"`, /does not fit 64 bits/);
 });
@@ -98,11 +100,11 @@ test("ticks on both sides of their limit", () => {
   for (const ticks of ["0", "1", "4294967295", "4294967296", "8783208118274", "8783208118275"]) assert.equal(read(ticks), BigInt(ticks));
   const not = (ticks, reason) => refuses(line({ ticks }), reason, columnOf(line(), '0,"us"'));
   not("8783208118276", /8783208118276 is above 8783208118275, the most that can stand here/);
-  not("9007199254740992", /is above 8783208118275/);
-  not('"9007199254740993"', /is above 8783208118275/);
+  not("9007199254740991", /is above 8783208118275/);
+  not('"9007199254740992"', /is above 8783208118275/);
   not('"18446744073709551615"', /is above 8783208118275/);
   not('"8783208118275"', /in quotes though not above/);
-  not("9007199254740993", /bare and above/);
+  not("9007199254740992", /bare and above/);
   not('"18446744073709551616"', /does not fit 64 bits/);
 });
 
@@ -110,7 +112,8 @@ test("microseconds on both sides of each limit", () => {
   const read = (ticks, us) => readLine(line({ ticks, us })).us;
   assert.equal(read("1", "0"), 0n);
   assert.equal(read("56", "56000000"), 56000000n);
-  assert.equal(read("9007199255", "9007199254740992"), 2n ** 53n);
+  assert.equal(read("9007199255", "9007199254740991"), 2n ** 53n - 1n);
+  assert.equal(read("9007199255", '"9007199254740992"'), 2n ** 53n);
   assert.equal(read("9007199255", '"9007199254740993"'), 2n ** 53n + 1n);
   assert.equal(read("8783208118275", '"8783208118275000000"'), 8783208118275000000n);
   const not = (ticks, us, reason) => refuses(line({ ticks, us }), reason, columnOf(line({ ticks, us }), '"us":') + 5);
@@ -120,7 +123,8 @@ test("microseconds on both sides of each limit", () => {
   not("8783208118275", '"8783208118275000001"', /is above 8783208118275000000/);
   not("8783208118275", '"18446744073709551615"', /is above 8783208118275000000/);
   not("8783208118275", "8783208118275000000", /bare and above/);
-  not("9007199255", '"9007199254740992"', /in quotes though not above/);
+  not("9007199255", '"9007199254740991"', /in quotes though not above/);
+  not("9007199255", "9007199254740992", /bare and above/);
   not("9007199255", "9007199254740993", /bare and above/);
 });
 
@@ -246,7 +250,7 @@ test("a line with one character changed, added or taken away is refused or says 
 test("a listing is whole lines whose keys go up by one", () => {
   assert.deepEqual(readListing(""), []);
   assert.equal(readListing(listingOfKeys("9007199254740990", "9007199254740991")).length, 2);
-  assert.equal(readListing(listingOfKeys("9007199254740992", '"9007199254740993"')).length, 2);
+  assert.equal(readListing(listingOfKeys('"9007199254740992"', '"9007199254740993"')).length, 2);
   refusesListing(line(), 1, /cut off/);
   refusesListing(listingOfKeys("7") + line({ key: "8" }), 2, /cut off/);
   refusesListing(listingOfKeys("7") + "{", 2, /cut off/);
@@ -259,7 +263,7 @@ test("a listing is whole lines whose keys go up by one", () => {
   refusesListing(listingOfKeys("7", "9"), 2, /go up by one/);
   refusesListing(listingOfKeys("7", "6"), 2, /go up by one/);
   refusesListing(listingOfKeys("1099511627775", "1099511627776"), 2, /next unit/);
-  refusesListing(listingOfKeys("9007199254740991", "9007199254740992"), 2, /next unit/);
+  refusesListing(listingOfKeys("9007199254740991", '"9007199254740992"'), 2, /next unit/);
   for (const given of [undefined, null, 7, [line()]]) refusesListing(given, 1, /not a text/);
 });
 
@@ -306,10 +310,17 @@ test("a careless page sees one key for two events, and this reader does not", ()
     const carelessKeys = careless.trimEnd().split("\n").map((each) => JSON.parse(each).key);
     assert.equal(carelessKeys.length, 3);
     assert.ok(new Set(carelessKeys).size < 3, "two of three neighbouring keys became one float");
-    refusesListing(careless, printed === listing(...DOCUMENT_LINES) ? 2 : 1, /bare and above/);
+    refusesListing(careless, 1, /bare and above/);
     assert.equal(new Set(readListing(printed).map((event) => event.key)).size, 3);
     assert.equal(new Set(readListing(printed).map((event) => event.keyText)).size, 3);
   }
+});
+
+test("a page that compares loosely takes no bare key for a quoted one", () => {
+  const parsed = (key) => JSON.parse(line({ key })).key;
+  const printed = ["9007199254740990", "9007199254740991", '"9007199254740992"', '"9007199254740993"'].map((key) => readLine(line({ key })) && parsed(key));
+  for (const one of printed) for (const other of printed) assert.equal(one == other, one === other);
+  assert.ok(parsed("9007199254740992") == parsed('"9007199254740993"'), "so it would if 2^53 were bare");
 });
 
 const isEventLine = (each) => each.startsWith('{"key":');

@@ -3,7 +3,7 @@ import { check, checkReading, keys, LIMIT, microseconds, readNames } from "./tra
 
 const asIs = (name) => name;
 /** A large number becomes a string, which gets its quotes later. */
-const value = (number) => (number <= LIMIT ? Number(number) : String(number));
+const value = (number) => (number < LIMIT ? Number(number) : String(number));
 
 export function listing(bytes, reading) {
   const header = check(bytes);

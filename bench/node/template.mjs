@@ -6,7 +6,7 @@ const escape = (character) =>
   character === '"' || character === "\\" ? `\\${character}` : `\\u00${character.charCodeAt(0).toString(16).padStart(2, "0")}`;
 const nameText = (name) => `"${name.replace(ESCAPED, escape)}"`;
 
-export const printed = (number) => (number <= LIMIT ? String(number) : `"${number}"`);
+export const printed = (number) => (number < LIMIT ? String(number) : `"${number}"`);
 
 export function listing(bytes, reading) {
   const header = check(bytes);

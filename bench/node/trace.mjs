@@ -92,14 +92,14 @@ export function readNames({ bytes, view, little, entrySize, start }, written) {
   return names;
 }
 
-/** A large number is written by the function given; floats suffice where the product does not pass the limit. */
+/** A large number is written by the function given; floats suffice where the product is below the limit. */
 export function microseconds(ticks, rate, written) {
-  // Up to the limit the floor of the rounded quotient is the exact one.
+  // Below the limit the floor of the rounded quotient is the exact one.
   if (ticks <= 9007199254) return Math.floor((ticks * 1e6) / rate);
   return written((BigInt(ticks) * 1000000n) / BigInt(rate));
 }
 
-/** The key by its position; floats suffice where the last key does not pass the limit. */
+/** The key by its position; floats suffice where the last key is below the limit. */
 export function keys({ unit, serial }, events, written) {
   const first = BigInt(unit) * 2n ** 40n + BigInt(serial);
   if (first + BigInt(events) <= LIMIT) {

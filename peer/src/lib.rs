@@ -1,4 +1,4 @@
-//! Reads and writes ThreadX trace buffers as document 01 says, with requests A1 and A2 of document 02: a second, independent writing of the rules.
+//! Reads and writes ThreadX trace buffers as document 01 says, with requests A1 to A3 of document 02: a second, independent writing of the rules.
 #![forbid(unsafe_code)]
 
 pub mod answers;

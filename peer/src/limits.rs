@@ -9,7 +9,8 @@ pub const FREE: u8 = 1;
 pub const THREAD: u8 = 1;
 pub const INIT_POINTER: u32 = 0xF0F0_F0F0;
 pub const ISR_POINTER: u32 = 0xFFFF_FFFF;
-pub const LARGEST_BARE: u64 = 1 << 53;
+/// Two to the 53 shares its double with the number after it; no number below shares one.
+pub const FIRST_QUOTED: u64 = 1 << 53;
 pub const UNITS: u32 = 1 << 24;
 pub const SERIALS: u64 = 1 << 40;
 

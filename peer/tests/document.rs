@@ -1,4 +1,4 @@
-//! Document 01's whole case, and both sides of each line.
+//! Document 01's whole case, its first key in quotes as 02 asks, and both sides of each line.
 
 use peer::*;
 
@@ -67,7 +67,7 @@ fn whole_case(order: ByteOrder) -> Vec<u8> {
 }
 
 const LINES: [&str; 3] = [
-    r#"{"key":9007199254740992,"ticks":0,"us":0,"id":5,"ptr":536875008,"by":"thread","name":"pump","field":16,"info":[1,2,3,4]}"#,
+    r#"{"key":"9007199254740992","ticks":0,"us":0,"id":5,"ptr":536875008,"by":"thread","name":"pump","field":16,"info":[1,2,3,4]}"#,
     r#"{"key":"9007199254740993","ticks":56,"us":18,"id":1025,"ptr":4294967295,"by":"isr","name":"pump","field":536875008,"info":[0,0,0,0]}"#,
     r#"{"key":"9007199254740994","ticks":56,"us":18,"id":6,"ptr":536879104,"by":"thread","name":null,"field":16,"info":[7,0,0,0]}"#,
 ];
@@ -244,6 +244,27 @@ fn serials() {
 }
 
 #[test]
+fn keys_beside_the_limit() {
+    let one = buffer_with(&PLAN, 2, &[0]);
+    for (unit, serial, key) in [
+        (8191, 1_099_511_627_775, "9007199254740991"),
+        (8192, 0, "\"9007199254740992\""),
+        (8192, 1, "\"9007199254740993\""),
+    ] {
+        let reading = Reading::new(1, unit, serial);
+        let start = format!("{{\"key\":{},\"ticks\":0,", key);
+        let text = text_of(&one, &reading).unwrap();
+        assert!(text.starts_with(&start), "{}", text);
+        let mut output = vec![b'.'; text.len()];
+        assert_eq!(line(&one, &reading, 0, &mut output), Ok(text.len()));
+        assert_eq!(output, text.into_bytes());
+    }
+    let two = buffer_with(&PLAN, 2, &[0, 0]);
+    let across = Reading::new(1, 8191, 1_099_511_627_775);
+    assert_eq!(text_of(&two, &across), Err(refused(15)));
+}
+
+#[test]
 fn lengths() {
     assert_eq!(check(&[]), Err(refused(1)));
     assert_eq!(check(&[0; 47]), Err(refused(1)));
@@ -255,7 +276,8 @@ fn lengths() {
 #[test]
 fn numbers() {
     assert_eq!(number(0), "0");
-    assert_eq!(number(9_007_199_254_740_992), "9007199254740992");
+    assert_eq!(number(9_007_199_254_740_991), "9007199254740991");
+    assert_eq!(number(9_007_199_254_740_992), "\"9007199254740992\"");
     assert_eq!(number(9_007_199_254_740_993), "\"9007199254740993\"");
     assert_eq!(number(u64::MAX), "\"18446744073709551615\"");
 }

@@ -1,11 +1,16 @@
 -- An answer tells whether the rows have passed, and what was given.
 use Prim.Native.Nat.{ℕ}
-use mathlib.Core.Path.{_≡_, refl}
+use mathlib.Core.List.{List, _++_}
+use mathlib.Core.Path.{_≡_, refl, sym, ap, _∙_}
+use lib.ListN.{drop, length, take}
+use lib.Seq.{take-at}
 use Rattle.events.specs.Events.{shownBy}
 use Rattle.events.specs.Listing as listing
+use Rattle.events.specs.Listing.{Gave}
 use Rattle.events.specs.declared.Event.{Event}
 use Rattle.events.specs.declared.Listed.the-variants.{Written}
 use Rattle.events.specs.declared.Shown.the-variants.{Given}
+use Rattle.rows.specs.Rows.{Accepted, Row, firstBroken}
 use Rattle.rows.specs.declared.Refusal.{Refusal}
 use Rattle.rows.specs.declared.Verdict.{Verdict}
 use Rattle.rows.specs.declared.Verdict.the-variants.{Passed, Refused}
@@ -34,3 +39,16 @@ done-is Passed m n e = (refl, cc)
 pub refused-is : (v : Verdict) (m : ℕ) (f : Refusal) → writing.outcomeBy v m ≡ outcome.Refused f → v ≡ Refused f
 refused-is (Refused g) m f e = cc
 refused-is Passed m f e = cc
+
+-- what was written is the text: its length is given, it stands in front of the old bytes past it, and no row is broken
+module _ (rows : List Row) (text old new : List ℕ) (n : ℕ) (gave : Gave rows text old new (Written n)) where
+  pub gave-accepted : Accepted rows
+  gave-accepted = written-is (firstBroken rows) (length text) n (sym (gave .answered)) .0
+
+  pub wrote : (n ≡ length text) × (new ≡ text ++ drop n old)
+  wrote =
+      let written = written-is (firstBroken rows) (length text) n (sym (gave .answered)) in
+      (written .1, gave .output ∙ rw (written .0, written .1))
+
+  pub wrote-front : take n new ≡ text
+  wrote-front = ap (take n) (wrote .1) ∙ take-at text (drop n old) n (sym (wrote .0))

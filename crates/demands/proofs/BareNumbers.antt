@@ -1,6 +1,6 @@
--- Bare numbers are safe in a browser: up to the limit a number is its own double.
-use Prim.Native.Nat.{ℕ, _^_, _≤_}
-use mathlib.Core.Bool.{true, false}
+-- Bare numbers are safe in a browser: each is its own double, and no other number has it.
+use Prim.Native.Nat.{ℕ, _^_, _≤_, _<_}
+use mathlib.Core.Bool.{Bool, true, false}
 use mathlib.Core.Path.{_≡_, refl, sym, ap, _∙_, subst}
 use native.Mathlib.Omega.{arith}
 use lib.Ieee.{binary64, size, toUnsigned}
@@ -8,29 +8,54 @@ use lib.Ieee.Back.{whole-unique}
 use lib.Ieee.Exact.{HasValue}
 use lib.Ieee.Fits.{ofInt-fits}
 use lib.IntN.{pos}
-use borrow.Author.Tests.{leb-true}
+use borrow.Author.Tests.{ltb-true}
+use Rattle.doubles.proofs.Alone as doubles
 use Rattle.doubles.proofs.Rule.{double-rounds, one-double, spacing-is}
 use Rattle.doubles.proofs.Values.{cast-value, double-same, value-back}
 use Rattle.doubles.specs.Doubles.{double, spacing}
-use Rattle.text.specs.Numbers.{isBare}
-use Rattle.demands.specs.BareNumbers.{BareNumbers, asDouble}
+use Rattle.text.proofs.ReadBack.{bare-seen, digits-back, inside-quotes, quotes-seen}
+use Rattle.text.specs.Ascii.{choose}
+use Rattle.text.specs.Numbers.{digits, isBare, number, quoted}
+use Rattle.text.specs.ReadBack.{decimal}
+use Rattle.demands.specs.BareNumbers.{BareNumbers}
+use Rattle.demands.specs.Page.{Read, TakenForOne, asDouble, float, readByPage, string}
 
-up-to : (n : ℕ) → isBare n ≡ true → n ≤ 2 ^ 53
+below : (n : ℕ) → isBare n ≡ true → n < 2 ^ 53
 unfolding isBare
-up-to n bare = leb-true n (2 ^ 53) bare
+below n bare = ltb-true n (2 ^ 53) bare
 
-same : (n : ℕ) → isBare n ≡ true → double n ≡ n
-same n bare = double-same n (up-to n bare)
+exactly : (n : ℕ) → n ≤ 2 ^ 53 → HasValue (asDouble n) false n 1
+exactly n most = subst (λ (v : ℕ). HasValue (asDouble n) false v 1) (double-same n most) (cast-value n (omega arith))
 
-exactly : (n : ℕ) → isBare n ≡ true → HasValue (asDouble n) false n 1
-exactly n bare = subst (λ (v : ℕ). HasValue (asDouble n) false v 1) (same n bare) (cast-value n (omega (arith, up-to n bare)))
+turns-back : (n : ℕ) → n ≤ 2 ^ 53 → toUnsigned 64 (asDouble n) ≡ n
+turns-back n most = value-back (asDouble n) n (exactly n most) ∙ omega arith
 
-turns-back : (n : ℕ) → isBare n ≡ true → toUnsigned 64 (asDouble n) ≡ n
-turns-back n bare = value-back (asDouble n) n (exactly n bare) ∙ omega (arith, up-to n bare)
+alone : (n m : ℕ) → isBare n ≡ true → asDouble m ≡ asDouble n → m ≡ n
+alone n m bare same = doubles.alone-as-float n m (below n bare) same
 
-last-bare : isBare 9007199254740992 ≡ true
-unfolding isBare
-last-bare = refl
+-- what a page reads of a number, bare or quoted
+readOf : Bool → ℕ → Read
+readOf true n = float (asDouble n)
+readOf false n = string (digits n)
+
+read-is : (n : ℕ) → readByPage (number n) ≡ readOf (isBare n) n
+unfolding number readOf
+read-is n = by (isBare n)
+  where
+    by : (bare : Bool) → readByPage (choose bare (digits n) (quoted (digits n))) ≡ readOf bare n
+    by true = rw (bare-seen n, digits-back n)
+    by false = rw (quotes-seen (digits n), inside-quotes (digits n))
+
+-- one double, where either is bare, or one text
+read-apart : (m n : ℕ) → TakenForOne (readByPage (number m)) (readByPage (number n)) → m ≡ n
+unfolding readOf
+read-apart m n taken = by (isBare m) (isBare n) refl refl (rw (read-is m, read-is n) at taken)
+  where
+    by : (first second : Bool) → isBare m ≡ first → isBare n ≡ second → TakenForOne (readOf first m) (readOf second n) → m ≡ n
+    by true true bare too same = alone n m too same
+    by true false bare not same = sym (alone m n bare (sym (same ∙ ap asDouble (digits-back n))))
+    by false true not bare same = alone n m bare (ap asDouble (sym (digits-back m)) ∙ same)
+    by false false not nor same = sym (digits-back m) ∙ ap decimal same ∙ digits-back n
 
 rounded-down : double 9007199254740993 ≡ 9007199254740992
 unfolding double spacing size
@@ -40,7 +65,7 @@ rounded-down = refl
 collide : asDouble 9007199254740993 ≡ asDouble 9007199254740992
 collide =
     let above : HasValue (asDouble 9007199254740993) false 9007199254740992 1 = subst (λ (v : ℕ). HasValue (asDouble 9007199254740993) false v 1) rounded-down (cast-value 9007199254740993 (omega arith)) in
-    let below : HasValue (asDouble 9007199254740992) false 9007199254740992 1 = exactly 9007199254740992 last-bare in
+    let below : HasValue (asDouble 9007199254740992) false 9007199254740992 1 = exactly 9007199254740992 (omega arith) in
     whole-unique binary64 (asDouble 9007199254740993) (asDouble 9007199254740992) false 9007199254740992 (ofInt-fits binary64 (pos 9007199254740993)) (ofInt-fits binary64 (pos 9007199254740992)) above below
 
 pub bare-numbers : BareNumbers
@@ -50,10 +75,13 @@ bare-numbers = record {
   rounded = double-rounds;
   no-other = one-double;
   cast = cast-value;
-  held = λ n bare. record { limit = up-to n bare; rule = same n bare; value = exactly n bare; back = turns-back n bare };
-  apart = λ m n x y e. sym (turns-back m x) ∙ ap (toUnsigned 64) e ∙ turns-back n y;
-  last = last-bare;
+  held = λ n most. record { rule = double-same n most; value = exactly n most; back = turns-back n most };
+  below = below;
+  alone = λ n m bare. doubles.alone n m (below n bare);
+  alone-as-float = alone;
+  on-page = read-apart;
+  last = refl;
   next = refl;
-  one-value = rounded-down;
+  one-value = rounded-down ∙ sym (double-same 9007199254740992 (omega arith));
   one-double = collide;
 }

@@ -11,6 +11,7 @@ pub mod Json
 pub mod JsonLines
 pub mod JsonNumbers
 mod JsonTexts
+pub mod Keys
 pub mod Layouts
 pub mod Masks
 pub mod Mending
@@ -19,6 +20,7 @@ pub mod NotRead
 pub mod Offsets
 pub mod OneLine
 pub mod OrderAndTime
+pub mod Page
 pub mod Patterns
 pub mod Plain
 pub mod Refusals

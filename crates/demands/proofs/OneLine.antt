@@ -102,9 +102,12 @@ object-unbroken : (ps : List Part) → Each PlainPart ps → Unbroken (objectTex
 unfolding objectText
 object-unbroken ps plain = enclosed (omega arith) (omega arith) (parts-unbroken ps plain)
 
+pub line-unbroken : (l : Line) (n : Option (List ℕ)) → All (λ c. c ≡ 0x0A → ⊥) (objectText (parts l n))
+line-unbroken l n = object-unbroken (parts l n) (line-plain l n)
+
 line-ended : (l : Line) (n : Option (List ℕ)) → (body : List ℕ) × (line l n ≡ body ++ (0x0A ∷ [])) × Each (λ c. c ≡ 0x0A → ⊥) body
 unfolding line
-line-ended l n = (objectText (parts l n), refl, each-other (object-unbroken (parts l n) (line-plain l n)))
+line-ended l n = (objectText (parts l n), refl, each-other (line-unbroken l n))
 
 pub one-line : (s : List ℕ) (h : Header) (r : Reading) (position : ℕ) → (body : List ℕ) × (lineAt s h r position ≡ body ++ (0x0A ∷ [])) × Each (λ c. c ≡ 0x0A → ⊥) body
 unfolding lineOf

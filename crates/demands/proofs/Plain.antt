@@ -35,13 +35,14 @@ pub record Plain (c : ℕ) : Type 0 where
   pub quote : c ≡ 0x22 → ⊥
   pub slash : c ≡ 0x5C → ⊥
 
-digit-plain : (d : ℕ) → d < 10 → Plain (digit d)
-digit-plain d below = omega arith
+-- what holds of every digit holds of a number's digits
+pub digits-all : (P : ℕ → Type 0) → ((d : ℕ) → d < 10 → P (digit d)) → (n : ℕ) → All P (digits n)
+digits-all P each =
+    by-tenths (λ n. All P (digits n)) (λ n below. rw (digits-one n below) (byte (each n below) no-byte))
+    (λ n large front. rw (digits-more n large) (both front (byte (each (n % 10) (omega arith)) no-byte)))
 
 pub digits-plain : (n : ℕ) → All Plain (digits n)
-digits-plain =
-    by-tenths (λ n. All Plain (digits n)) (λ n below. rw (digits-one n below) (byte (digit-plain n below) no-byte))
-    (λ n large front. rw (digits-more n large) (both front (byte (digit-plain (n % 10) (omega arith)) no-byte)))
+digits-plain = digits-all Plain (λ d below. omega arith)
 
 -- the test, of a text
 abbrev arePlain : List ℕ → Bool

@@ -2,19 +2,14 @@
 use Prim.Native.Nat.{ℕ, _^_, _≤_, _<_}
 use mathlib.Core.Bool.{true, false}
 use mathlib.Core.Path.{_≡_}
-use lib.Ieee.{Float, binary64, ofInt, toUnsigned}
+use lib.Ieee.{toUnsigned}
 use lib.Ieee.Exact.{HasValue}
-use lib.IntN.{pos}
 use Rattle.doubles.specs.Doubles.{IsSpacing, Rounded, double, spacing}
-use Rattle.text.specs.Numbers.{isBare}
-
--- the double that a page gets for the digits of n
-abbrev pub asDouble : ℕ → Float
-asDouble n = ofInt binary64 (pos n)
+use Rattle.text.specs.Numbers.{isBare, number}
+use Rattle.demands.specs.Page.{TakenForOne, asDouble, readByPage}
 
 -- a number that a browser holds: its double is that number, by the rule and as a float, and turns back to it
 pub record IsHeld (n : ℕ) : Type 0 where
-  pub limit : n ≤ 2 ^ 53
   pub rule : double n ≡ n
   pub value : HasValue (asDouble n) false n 1
   pub back : toUnsigned 64 (asDouble n) ≡ n
@@ -25,12 +20,16 @@ pub record BareNumbers : Type 0 where
   pub rounded : (n : ℕ) → Rounded n (spacing n) (double n)
   pub no-other : (n u r : ℕ) → IsSpacing n u → Rounded n u r → r ≡ double n
   pub cast : (n : ℕ) → n < 2 ^ 64 → HasValue (asDouble n) false (double n) 1
-  -- a bare number's double is exact and turns back to the same number
-  pub held : (n : ℕ) → isBare n ≡ true → IsHeld n
-  -- of two bare numbers, equal doubles mean equal numbers
-  pub apart : (m n : ℕ) → isBare m ≡ true → isBare n ≡ true → asDouble m ≡ asDouble n → m ≡ n
-  -- why the limit is there: the last bare number and the next have one double
-  pub last : isBare 9007199254740992 ≡ true
-  pub next : isBare 9007199254740993 ≡ false
-  pub one-value : double 9007199254740993 ≡ 9007199254740992
+  -- up to and including two to the fifty-third a number's double is exact and turns back to the same number
+  pub held : (n : ℕ) → n ≤ 2 ^ 53 → IsHeld n
+  -- a bare number is below that, and no other whole number, of any size, printed or not, has its double: by the rule, and as a float
+  pub below : (n : ℕ) → isBare n ≡ true → n < 2 ^ 53
+  pub alone : (n m : ℕ) → isBare n ≡ true → double m ≡ double n → m ≡ n
+  pub alone-as-float : (n m : ℕ) → isBare n ≡ true → asDouble m ≡ asDouble n → m ≡ n
+  -- so a page takes no number that was written for another, bare or quoted
+  pub on-page : (m n : ℕ) → TakenForOne (readByPage (number m)) (readByPage (number n)) → m ≡ n
+  -- why the limit is there: the first number that is not bare shares its double with the next
+  pub last : isBare 9007199254740991 ≡ true
+  pub next : isBare 9007199254740992 ≡ false
+  pub one-value : double 9007199254740993 ≡ double 9007199254740992
   pub one-double : asDouble 9007199254740993 ≡ asDouble 9007199254740992

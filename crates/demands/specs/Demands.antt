@@ -143,7 +143,7 @@ pub record SecondDemand : Type 0 where
   pub json : JsonLines
   -- what is printed reads back
   pub texts : Texts
-  -- "and no whole number above two to the fifty-third leaves as a JSON number.": in what was written, the JSON numbers are the digits of the lines' bare
+  -- "and no whole number at or above two to the fifty-third leaves as a JSON number." (document 02, A3): in what was written, the JSON numbers are the digits of the lines' bare
   -- numbers, in their order, and nothing else
   pub numbers : (s : List ℕ) (r : Reading) (old new : List ℕ) (n : ℕ)
       → Gave (listingRows s (headerOf s) r (length old)) (listingText s (headerOf s) r) old new (listed.Written n)
@@ -151,9 +151,9 @@ pub record SecondDemand : Type 0 where
   pub line-numbers : (s : List ℕ) (r : Reading) (position : ℕ) (old new : List ℕ) (n : ℕ)
       → Gave (lineRows s (headerOf s) r position (length old)) (lineAt s (headerOf s) r position) old new (listed.Written n)
       → jsonNumbers (take n new) ≡ map digits (keep isBare (numbersOf (fields r position (eventAt s (headerOf s) position))))
-  -- a bare number is at most two to the fifty-third, and its double is exact and turns back
+  -- a bare number is below two to the fifty-third, and no other number has its double
   pub bare-numbers : BareNumbers
-  -- events have keys of their own
+  -- events have keys of their own, also as a page reads them
   pub keys : Keys
 
 -- THE THIRD DEMAND

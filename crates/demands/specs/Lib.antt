@@ -17,6 +17,7 @@ pub mod Names
 pub mod NotRead
 pub mod Offsets
 pub mod OrderAndTime
+pub mod Page
 pub mod Patterns
 pub mod Refusals
 pub mod Shown

@@ -1,4 +1,4 @@
--- The starred cases of document 01, in one table.
+-- The starred cases of document 01, in one table, and both sides of the limit of document 02, A3.
 use Prim.Native.Nat.{ℕ}
 use mathlib.Core.Bool.{false}
 use mathlib.Core.List.{List, [], _∷_, _++_}
@@ -8,6 +8,7 @@ use Rattle.text.specs.Ascii.{ascii}
 use Rattle.text.specs.Names.{escaped}
 use Rattle.text.specs.Numbers.{number}
 use Rattle.trace.specs.Check.{checkOf}
+use Rattle.trace.specs.Keys.{key}
 use Rattle.trace.specs.Layout.{traceId, bufferEnd}
 use Rattle.trace.specs.Table.{row4, row5}
 use Rattle.trace.specs.Times.{gap, microseconds}
@@ -66,4 +67,8 @@ pub record Starred (o : Order) : Type 0 where
   pub gap-equal : (mask stamp : ℕ) → gap mask stamp stamp ≡ 0
   pub bare-at-9007199254-ticks : number (microseconds 9007199254 1) ≡ ascii "9007199254000000"
   pub quoted-at-9007199255-ticks : number (microseconds 9007199255 1) ≡ ascii "\"9007199255000000\""
+  pub bare-at-key-9007199254740991 : number (key 8191 1099511627775 0) ≡ ascii "9007199254740991"
+  pub quoted-at-key-9007199254740992 : number (key 8192 0 0) ≡ ascii "\"9007199254740992\""
+  pub bare-at-9007199254740991-microseconds : number (microseconds 9007199254740991 1000000) ≡ ascii "9007199254740991"
+  pub quoted-at-9007199254740992-microseconds : number (microseconds 9007199254740992 1000000) ≡ ascii "\"9007199254740992\""
   pub name-41-22-0A : escaped (0x41 ∷ 0x22 ∷ 0x0A ∷ []) ≡ ascii "A\\\"\\u000a"

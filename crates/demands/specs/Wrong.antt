@@ -1,6 +1,6 @@
 -- Statements next to true ones that are false: two of document 01's slips, as what they take for granted, and limits and conditions of the demands moved or left out.
 use Prim.Native.Nat.{ℕ, suc, _+_, _-_, _^_, _≤_, _<_, min}
-use mathlib.Core.Bool.{true, false}
+use mathlib.Core.Bool.{false}
 use mathlib.Core.List.{List, _++_}
 use mathlib.Core.Logic.{_⊎_}
 use mathlib.Core.Path.{_≡_}
@@ -8,7 +8,7 @@ use lib.ListN.{length}
 use Rattle.events.specs.declared.Reading.{Reading}
 use Rattle.rows.specs.Rows.{Accepted}
 use Rattle.rows.specs.declared.Refusal.{Refusal}
-use Rattle.text.specs.Numbers.{digits, isBare, number}
+use Rattle.text.specs.Numbers.{digits, number}
 use Rattle.trace.specs.Check.{checkOf}
 use Rattle.trace.specs.Layout.{headerOf, mostBytes, registryEnd}
 use Rattle.trace.specs.Slots.{eventCount}
@@ -25,6 +25,7 @@ use Rattle.writing.specs.declared.Outcome.the-variants.{Done}
 use Rattle.demands.specs.History.{Call, NeverBack, NoneFormats, Typed, acceptedWrites, after, lastOf, sinceOldest}
 use Rattle.demands.specs.Keys.{keyAt}
 use Rattle.demands.specs.NotRead.{SameAnswers}
+use Rattle.demands.specs.Page.{asDouble}
 use Rattle.demands.specs.Refusals.{givenAt}
 use Rattle.demands.specs.Shown.{ReadingAccepted, shownTicks}
 
@@ -40,9 +41,9 @@ MicrosecondsBare = (ticks rate : ℕ) → number (microseconds ticks rate) ≡ d
 abbrev pub NoOnes : Type 0
 NoOnes = (w : ℕ) → w ≤ 32 → row4 (2 ^ w - 1) .broken ≡ false
 
--- two to the fifty-third in quotes
-abbrev pub LowerLimit : Type 0
-LowerLimit = (n : ℕ) → isBare n ≡ true → n < 2 ^ 53
+-- two to the fifty-third bare: that it, too, has its double for itself
+abbrev pub HigherLimit : Type 0
+HigherLimit = (n m : ℕ) → n ≤ 2 ^ 53 → asDouble m ≡ asDouble n → m ≡ n
 
 -- serial ranges that share one serial
 abbrev pub SerialsTouch : Type 0
@@ -88,7 +89,7 @@ pub record Wrong : Type 0 where
   pub stamps-rise : StampsRise → ⊥
   pub microseconds-bare : MicrosecondsBare → ⊥
   pub no-ones : NoOnes → ⊥
-  pub lower-limit : LowerLimit → ⊥
+  pub higher-limit : HigherLimit → ⊥
   pub serials-touch : SerialsTouch → ⊥
   pub no-places : NoPlaces → ⊥
   pub count-grows : CountGrows → ⊥

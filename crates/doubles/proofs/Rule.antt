@@ -3,7 +3,7 @@ use Prim.Native.Nat.{ℕ, suc, _+_, _-_, _*_, _/_, _%_, _^_, _≤_, _<_, compare
 use mathlib.Core.Bool.{Bool, true, false, not}
 use mathlib.Core.Logic.{_⊎_, inl, inr, ⊎-elim}
 use mathlib.Core.Path.{_≡_, refl, sym, ap, _∙_, subst}
-use native.Mathlib.Nat.{div-add-mod', eq-or-lt-of-le, le-antisymm, lt-of-le-of-lt, lt-of-not-le, not-le-of-lt, mod-eq-of-lt, mod-lt, mul-add-mod-self-right, add-mul, suc-mul, mul-le-mul-right, mul-mod-left, mul-div-cancel}
+use native.Mathlib.Nat.{div-add-mod', eq-or-lt-of-le, le-antisymm, lt-of-le-of-lt, lt-of-not-le, not-le-of-lt, mod-eq-of-lt, mod-lt, mul-add-mod-self-right, add-mul, suc-mul, mul-le-mul-right, mul-mod-left, mul-div-cancel, le-of-mul-le-mul-right}
 use native.Mathlib.Omega.{arith}
 use lib.Dec.{T, isLe, isEq, eqb, ltb, leb→le, nleb→lt, eqb→eq, eqb-refl}
 use lib.Ieee.{nearest, size}
@@ -69,6 +69,20 @@ spacing-is n = (size n - 53, refl, by-size (ltb (size n) 54) refl)
           subst (λ (x : ℕ). x ≤ n) (pow-add 2 52 (size n - 53)) (size-reaches n (52 + (size n - 53)) less),
           subst (λ (x : ℕ). n < x) (sym (ap (λ (k : ℕ). 2 ^ k) all) ∙ pow-add 2 53 (size n - 53)) (size-lt n),
         )
+
+-- from two to the fifty-third on, doubles are no smaller: the double has as many bits above the spacing
+pub double-from : (n : ℕ) → 2 ^ 53 ≤ n → 2 ^ 53 ≤ double n
+double-from n large = by-spacing (spacing n) (spacing-is n) (double-rounds n)
+  where
+    by-spacing : (u : ℕ) → IsSpacing n u → Rounded n u (double n) → 2 ^ 53 ≤ double n
+    by-spacing u (k, is, inl few) rounded = absurd (omega (arith, few .1))
+    by-spacing u (k, is, inr (low, high)) rounded =
+        let two : 2 ≤ u = omega arith in
+        let whole : double n / u * u ≡ double n = omega (arith, div-add-mod' (double n) u, rounded .multiple) in
+        let odd : (double n / u * 2 + 1) * u ≡ double n * 2 + u = omega (arith, whole) in
+        let many : 2 ^ 53 ≤ double n / u * 2 + 1 = le-of-mul-le-mul-right {k = u} (omega (arith, rounded .low, odd)) (omega arith) in
+        let most : 2 ^ 52 * u ≤ double n / u * u = mul-le-mul-right u (omega arith) in
+        omega arith
 
 -- two neighbouring multiples are not both the nearest, for at a tie one of them is odd
 no-neighbour : (n u a : ℕ) → 0 < u → Rounded n u (a * u) → Rounded n u (suc a * u) → ⊥

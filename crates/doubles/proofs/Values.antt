@@ -11,7 +11,7 @@ use lib.Ieee.Digits.{size-lt, size-le, size-reaches}
 use lib.Ieee.Exact.{HasValue}
 use lib.Ieee.Fits.{down-pos}
 use lib.Ieee.Nearest.{closest, closest-same}
-use lib.Ieee.Scale.{grid, overflow, round-val}
+use lib.Ieee.Scale.{finite, grid, overflow, round-under, round-val}
 use lib.IntN.{pos}
 use lib.Pow.{pow-add, pow-pos, pow-mono, shl-lt}
 use borrow.Author.Tests.{ltb-false}
@@ -58,15 +58,28 @@ value-in-ones nan n l positive v = v
 value-in-ones (inf s) n l positive v = v
 value-in-ones (fin s m e) n l positive v = (v .0, eq-of-mul-eq-mul-right l positive (m * up e * 1) (n * down e) (ap (λ (x : ℕ). x * l) (mul-one (m * up e)) ∙ v .1 ∙ mul-right-comm n l (down e)))
 
-many-digits : (f : Format) (n : ℕ) → prec f ≤ size n → 0 < prec f → rounded f n < 2 ^ suc (emax f) → HasValue (round f false n 1) false (rounded f n) 1
-many-digits f n many some small =
-    let e = in-ones f n many some in
-    let fits : grid f n 1 < overflow f = subst (λ (x : ℕ). x < overflow f) (sym e) (lt-of-lt-of-le (shl-lt (suc (emax f)) (low f) small) (le-of-eq (ap (λ (x : ℕ). 2 ^ x) (omega arith)))) in
-    value-in-ones (round f false n 1) (rounded f n) (2 ^ low f) (pow-pos (low f)) (subst (λ (x : ℕ). HasValue (round f false n 1) false x (2 ^ low f)) e (round-val f n 1 fits))
-
 -- to ones, rounding changes nothing
 to-ones : (n : ℕ) → closest n 1 * 1 ≡ n
 to-ones n = mul-one (closest n 1) ∙ ap₂ (λ (q r : ℕ). nearest q (compare (r * 2) 1)) (div-one n) (mod-one n)
+
+-- so a number's float has the rounded value, where it is not an infinity
+rounded-value : (f : Format) (n : ℕ) → 0 < prec f → (prec f ≤ size n → grid f n 1 < overflow f) → HasValue (round f false n 1) false (rounded f n) 1
+rounded-value f n some fits = by-size (leb (prec f) (size n)) (leb→le (prec f) (size n)) (nleb→lt (prec f) (size n))
+  where
+    by-size : (b : Bool) → (T b → prec f ≤ size n) → (T (not b) → size n < prec f) → HasValue (round f false n 1) false (rounded f n) 1
+    by-size true many few =
+        value-in-ones (round f false n 1) (rounded f n) (2 ^ low f) (pow-pos (low f))
+        (subst (λ (x : ℕ). HasValue (round f false n 1) false x (2 ^ low f)) (in-ones f n (many tt) some) (round-val f n 1 (fits (many tt))))
+    by-size false many few =
+        let s = few tt in
+        let none : size n - prec f ≡ 0 = omega arith in
+        let same : n ≡ rounded f n = sym (ap (λ (k : ℕ). closest n (2 ^ k) * 2 ^ k) none ∙ to-ones n) in
+        subst (λ (x : ℕ). HasValue (round f false n 1) false x 1) same (round-whole f false n (le-of-lt (lt-of-lt-of-le (size-lt n) (pow-mono (le-of-lt s)))))
+
+-- and it is none where the rounded value is in the format's range
+in-range-fits : (f : Format) (n : ℕ) → prec f ≤ size n → 0 < prec f → rounded f n < 2 ^ suc (emax f) → grid f n 1 < overflow f
+in-range-fits f n many some small =
+    subst (λ (x : ℕ). x < overflow f) (sym (in-ones f n many some)) (lt-of-lt-of-le (shl-lt (suc (emax f)) (low f) small) (le-of-eq (ap (λ (x : ℕ). 2 ^ x) (omega arith))))
 
 -- a double is at most its spacing above the number
 double-below : (n : ℕ) → n < 2 ^ 64 → double n < 2 ^ 65
@@ -84,21 +97,28 @@ cast-is n = refl
 -- the cast's double has the rule's value
 pub cast-value : (n : ℕ) → n < 2 ^ 64 → HasValue (ofInt binary64 (pos n)) false (double n) 1
 unfolding double spacing
-cast-value n h = subst (λ (x : Float). HasValue x false (rounded binary64 n) 1) (sym (cast-is n)) (by-size (leb 53 (size n)) (leb→le 53 (size n)) (nleb→lt 53 (size n)))
-  where
-    by-size : (b : Bool) → (T b → 53 ≤ size n) → (T (not b) → size n < 53) → HasValue (round binary64 false n 1) false (rounded binary64 n) 1
-    by-size true many few = many-digits binary64 n (many tt) (lit< tt) (lt-of-lt-of-le (double-below n h) (pow-mono (lit≤ {m = 65} {n = 1024} tt)))
-    by-size false many few =
-        let s = few tt in
-        let none : size n - 53 ≡ 0 = omega arith in
-        let same : n ≡ rounded binary64 n = sym (ap (λ (k : ℕ). closest n (2 ^ k) * 2 ^ k) none ∙ to-ones n) in
-        subst (λ (x : ℕ). HasValue (round binary64 false n 1) false x 1) same (round-whole binary64 false n (le-of-lt (lt-of-lt-of-le (size-lt n) (pow-mono (le-of-lt s)))))
+cast-value n h =
+    subst (λ (x : Float). HasValue x false (rounded binary64 n) 1) (sym (cast-is n))
+    (rounded-value binary64 n (lit< tt) (λ many. in-range-fits binary64 n many (lit< tt) (lt-of-lt-of-le (double-below n h) (pow-mono (lit≤ {m = 65} {n = 1024} tt)))))
 
 -- a float has one value
 pub one-value : (x : Float) (a b : ℕ) → HasValue x false a 1 → HasValue x false b 1 → a ≡ b
 one-value nan a b v w = absurd v
 one-value (inf s) a b v w = absurd v
 one-value (fin s m e) a b v w = eq-of-mul-eq-mul-right (down e) (down-pos e) a b (sym (v .1) ∙ w .1)
+
+-- a float with a whole number's value is not an infinity
+is-finite : (x : Float) (n : ℕ) → HasValue x false n 1 → T (finite x)
+is-finite nan n v = absurd v
+is-finite (inf s) n v = absurd v
+is-finite (fin s m e) n v = tt
+
+-- so a number's float, of whatever size, has no other value than the rule's
+pub cast-only : (n v : ℕ) → HasValue (ofInt binary64 (pos n)) false v 1 → v ≡ double n
+unfolding double spacing
+cast-only n v has =
+    let value = subst (λ (x : Float). HasValue x false v 1) (cast-is n) has in
+    one-value (round binary64 false n 1) v (rounded binary64 n) value (rounded-value binary64 n (lit< tt) (λ many. round-under binary64 n 1 (is-finite (round binary64 false n 1) v value)))
 
 -- up to two to the fifty-third a number is its own double
 pub double-same : (n : ℕ) → n ≤ 2 ^ 53 → double n ≡ n

@@ -1,4 +1,4 @@
-// Prints numbers: digits, in quotes where a double may not hold the number.
+// Prints numbers: digits, in quotes where another number may have the same double.
 ghost use mathlib.Core.Path.{_≡_};
 ghost use Prim.Native.Nat.{_+_, _≤_, _<_};
 ghost use lib.Dec.{ltb};
@@ -13,7 +13,7 @@ ghost use Rattle.numbers.specs.Groups.{eight, four};
 pub fn is_bare(x: u64) -> bool
     ensures { λ r. ⌜ r ≡ isBare x ⌝ }
 {
-    x <= 9007199254740992
+    x < 9007199254740992
 }
 
 // The length of x's text. The bound follows, and spares callers its proof.

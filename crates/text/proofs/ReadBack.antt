@@ -29,11 +29,11 @@ unfolding decimal decimalAfter
 digits-back = by-tenths (λ n. decimal (digits n) ≡ n) (λ n h. rw (digits-one n h) (omega arith)) (λ n h r. rw (digits-more n h, decimal-next 0 (n % 10) (digits (n / 10)), r) (omega arith))
 
 -- what stands between quotes
-inside-quotes : (text : List ℕ) → inside (quoted text) ≡ text
+pub inside-quotes : (text : List ℕ) → inside (quoted text) ≡ text
 unfolding inside quoted
 inside-quotes text = take-at text (ascii "\"") (suc (length (text ++ ascii "\"")) - 2) (rw length-append (omega arith))
 
-quotes-seen : (text : List ℕ) → isQuoted (quoted text) ≡ true
+pub quotes-seen : (text : List ℕ) → isQuoted (quoted text) ≡ true
 unfolding isQuoted quoted
 quotes-seen text = refl
 
@@ -90,7 +90,7 @@ Begins n = (d : ℕ) × (ds : List ℕ) × (digits n ≡ digit d ∷ ds)
 first-digit : (n : ℕ) → Begins n
 first-digit = by-tenths Begins (λ n h. (n, [], digits-one n h)) (λ n h r. (r .0, r .1 ++ (digit (n % 10) ∷ []), digits-more n h ∙ ap (λ ds. ds ++ (digit (n % 10) ∷ [])) (r .2)))
 
-bare-seen : (n : ℕ) → isQuoted (digits n) ≡ false
+pub bare-seen : (n : ℕ) → isQuoted (digits n) ≡ false
 unfolding isQuoted
 bare-seen n =
     let first = first-digit n in

@@ -1,8 +1,8 @@
--- Numbers in a line: digits, and quotes around those of a number that a double may not hold.
+-- Numbers in a line: digits, in quotes where another number may have the same double.
 use Prim.Native.Nat.{ℕ, zero, suc, _+_, _/_, _%_, _^_}
 use mathlib.Core.Bool.{Bool}
 use mathlib.Core.List.{List, [], _∷_, _++_}
-use lib.Dec.{ltb, leb}
+use lib.Dec.{ltb}
 use Rattle.text.specs.Ascii.{ascii, choose}
 
 -- the digit for a number below 10
@@ -24,9 +24,9 @@ digits n = digitsIn (suc n) n
 abbrev pub pair : ℕ → List ℕ
 pair n = digit (n / 10) ∷ digit (n % 10) ∷ []
 
--- whether n is printed as JSON digits: up to and including two to the fifty-third
+-- whether n is printed as JSON digits: below two to the fifty-third (document 02, A3)
 unfoldable pub isBare : ℕ → Bool
-isBare n = leb n (2 ^ 53)
+isBare n = ltb n (2 ^ 53)
 
 unfoldable pub quoted : List ℕ → List ℕ
 quoted text = ascii "\"" ++ text ++ ascii "\""

@@ -1,11 +1,13 @@
-//! The cases that the documents themselves name: 01's whole case, both sides of each line, and the cut dumps and the mending of 02.
+//! The cases that the documents themselves name: 01's whole case, both sides of each line, and the cut dumps, the mending and the first quoted key of 02.
 
 use super::cut_cases::{cut_whole, far_ends};
 use super::draft::Draft;
 use super::mend_cases::mend_cases;
+use super::microseconds::last_bare_ticks;
 use crate::call::{Call, Registration};
 use crate::case::Case;
 use crate::format::{format, Plan};
+use crate::limits::SERIALS;
 use crate::order::ByteOrder;
 use crate::reading::Reading;
 use crate::record::record;
@@ -33,6 +35,7 @@ pub fn cases() -> Vec<Case> {
         microseconds(),
         name_bytes(),
         last_serial(),
+        keys_beside_the_limit(),
         wrong_length(47),
         wrong_length(65_537),
         largest_listing(),
@@ -74,6 +77,14 @@ fn listing(rate: u32, unit: u32, serial: u64) -> Call {
     }
 }
 
+fn line(rate: u32, unit: u32, serial: u64, position: usize) -> Call {
+    Call::Line {
+        reading: Reading::new(rate, unit, serial),
+        position,
+        room: 200,
+    }
+}
+
 fn whole_case(title: &str, order: ByteOrder, unit: u32) -> Case {
     let plan = Plan {
         order,
@@ -101,11 +112,7 @@ fn whole_case(title: &str, order: ByteOrder, unit: u32) -> Case {
     });
     for position in 0..4 {
         draft.make(Call::Event { position });
-        draft.make(Call::Line {
-            reading: Reading::new(3_000_000, unit, 0),
-            position,
-            room: 200,
-        });
+        draft.make(line(3_000_000, unit, 0, position));
     }
     draft.make(listing(3_000_000, unit, 0));
     draft.make(Call::Bytes);
@@ -197,6 +204,20 @@ fn last_serial() -> Case {
     draft.finish()
 }
 
+/// Unit 8191 has the last bare keys, unit 8192 the first in quotes; no listing goes from one to the other.
+fn keys_beside_the_limit() -> Case {
+    let mut draft = start("keys beside the limit", 48 + 64, PLAIN);
+    draft.make(plain_event(0));
+    draft.make(listing(1, 8191, SERIALS - 1));
+    draft.make(plain_event(1));
+    draft.make(listing(1, 8191, SERIALS - 1));
+    for position in 0..2 {
+        draft.make(line(1, 8191, SERIALS - 2, position));
+        draft.make(line(1, 8192, 0, position));
+    }
+    draft.finish()
+}
+
 /// The length is refused before the id, which is bad.
 fn wrong_length(length: usize) -> Case {
     let mut draft = start("wrong length", length, PLAIN);
@@ -236,11 +257,22 @@ fn largest_times() -> Case {
     let mut draft = Draft::new("largest times", buffer, Vec::new());
     for position in [1, 2_044, 2_045] {
         draft.make(Call::Event { position });
-        draft.make(Call::Line {
-            reading: Reading::new(1, 9, 0),
-            position,
-            room: 200,
-        });
+        draft.make(line(1, 9, 0, position));
     }
+    highest_rate_at_the_limit(&mut draft);
     draft.finish()
+}
+
+/// Two more writes: at the highest rate that gets so far, the last microseconds are its lowest in quotes, then its highest bare ones.
+fn highest_rate_at_the_limit(draft: &mut Draft) {
+    const RATE: u32 = 975;
+    let largest_gap = u64::from(u32::MAX);
+    let gap = last_bare_ticks(RATE) + 1 - 2_044 * largest_gap;
+    // The second write drops one largest gap and adds one that is a tick less.
+    let mut stamp = 0u32.wrapping_sub(2_045);
+    for gap in [gap, largest_gap - 1] {
+        stamp = stamp.wrapping_add(gap as u32);
+        draft.make(plain_event(stamp));
+        draft.make(line(RATE, 9, 0, 2_045));
+    }
 }

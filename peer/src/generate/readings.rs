@@ -18,28 +18,25 @@ pub struct Readings {
     spread: u32,
 }
 
-/// Unit 8192 begins at two to the 53, and unit 8191 ends just below it.
+/// Unit 8191 ends just below two to the 53, with the last bare keys; unit 8192 begins at it, with the first in quotes.
 const EDGE_UNITS: [u32; 4] = [0, 8191, 8192, UNITS - 1];
 
-/// The lowest serials and units are left to the cases of document 01 itself.
+/// The lowest serials and units, and the last bare key, are left to the cases that the documents name.
 const SERIALS_LEFT_OUT: u64 = 3;
 const UNITS_LEFT_OUT: u32 = 16;
+const BARE_KEYS_LEFT_OUT: u64 = 1;
 
 impl Readings {
     pub fn new(distinct: bool) -> Readings {
-        let taken = if distinct { SERIALS_LEFT_OUT } else { 0 };
         let mut frontiers = Vec::new();
         for unit in EDGE_UNITS {
-            frontiers.push(Frontier {
-                unit,
-                upward: true,
-                taken,
-            });
-            frontiers.push(Frontier {
-                unit,
-                upward: false,
-                taken: 0,
-            });
+            for upward in [true, false] {
+                frontiers.push(Frontier {
+                    unit,
+                    upward,
+                    taken: if distinct { left_out(unit, upward) } else { 0 },
+                });
+            }
         }
         Readings {
             distinct,
@@ -90,6 +87,15 @@ impl Readings {
                 return unit;
             }
         }
+    }
+}
+
+/// How many keys of an edge are not handed out.
+fn left_out(unit: u32, upward: bool) -> u64 {
+    match (unit, upward) {
+        (_, true) => SERIALS_LEFT_OUT,
+        (8191, false) => BARE_KEYS_LEFT_OUT,
+        _ => 0,
     }
 }
 

@@ -52,7 +52,7 @@ pub fn bad_name_size(chance: &mut Chance, name_size: u16) -> u16 {
         0, 1, 2, 3, 5, 6, 7, 9, 62, 63, 65, 66, 68, 72, 128, 0xFFFC, 0xFFFF,
     ];
     match chance.below(4) {
-        0 => name_size + chance.pick(&[1, 2, 3]),
+        0 => name_size.wrapping_add(chance.pick(&[1, 2, 3])),
         1 => name_size.swap_bytes(),
         _ => chance.pick(&known),
     }

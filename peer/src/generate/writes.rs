@@ -40,7 +40,7 @@ fn record(chance: &mut Chance, draft: &mut Draft, stamp: u32) {
     let mut words = sound::event(chance, stamp, &pointers);
     match chance.below(16) {
         0 => words[0] = 0,
-        1 => words[2] = 0,
+        1 | 3 => words[2] = 0,
         2 if chance.one_in(2) => {
             words[0] = 0;
             words[2] = 0;

@@ -7,7 +7,7 @@ use native.Mathlib.Omega.{arith}
 use lib.Dec.{ltb}
 use lib.ListN.{length}
 use borrow.Author.Needs.{needs}
-use borrow.Author.Tests.{le-leb, ltb-true, ltb-false}
+use borrow.Author.Tests.{lt-ltb, ltb-true, ltb-false}
 use Rattle.text.proofs.Digits.{number-bare, number-quoted, count-quoted}
 use Rattle.text.proofs.Output.{none-fitted, put-fitted}
 use Rattle.text.specs.Numbers.{digits, isBare, number}
@@ -16,7 +16,7 @@ use Rattle.numbers.proofs.fit_number.Tie as tie
 
 bare-below : (x : ℕ) → x < 10000000000 → number x ≡ digits x
 unfolding isBare
-bare-below x h = number-bare x (le-leb x (2 ^ 53) (omega arith))
+bare-below x h = number-bare x (lt-ltb x (2 ^ 53) (omega arith))
 
 room : (x : ℕ) (out : List ℕ) {short : Bool} → short ≡ ltb (length out) (length (number x)) → short ≡ false → length (number x) ≤ length out
 room x out told long = ltb-false (length out) (length (number x)) (sym told ∙ long)
