@@ -1,4 +1,4 @@
-// Reads the listing's lines as document 01 prints them, and refuses every line of another form; no value passes through a float unless that is safe.
+// Reads the listing's lines as documents 01 and 02 print them, and refuses every line of another form; no number is kept as a float unless it is safe.
 
 const LARGEST_OF_64_BITS = "18446744073709551615";
 const LARGEST_OF_32_BITS = "4294967295";
@@ -16,7 +16,7 @@ const NUMBER_TOKEN = /"[^"]*"?|[^",\]}]*/y;
 const SHORT_ESCAPE = /\\(["\\])/y;
 const BYTE_ESCAPE = /\\u00([0-9a-f]{2})/y;
 
-/** Thrown for a text that is not a line of document 01: the line from 1, the column from 1, and the reason in words. */
+/** Thrown for a text that is not such a line: the line from 1, the column from 1, and the reason in words. */
 export class RefusedLine extends Error {
   constructor(line, column, reason) {
     super(`line ${line}, column ${column}: ${reason}`);

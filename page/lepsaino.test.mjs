@@ -26,7 +26,7 @@ const listing = (...lines) => lines.map((each) => `${each}\n`).join("");
 const listingOfKeys = (...keys) => listing(...keys.map((key) => line({ key })));
 const unquotedKeys = (text) => text.replace(/"key":"([0-9]+)"/g, '"key":$1');
 
-/** An event as document 01 prints it: an accepted text must be this one, so nothing else is accepted and nothing is lost. */
+/** An event as the documents print it: an accepted text must be this one, so nothing else is accepted and nothing is lost. */
 function printed(event) {
   const number = (value) => (value < 2n ** 53n ? `${value}` : `"${value}"`);
   const escape = (character) => (/["\\]/.test(character) ? `\\${character}` : `\\u00${character.charCodeAt(0).toString(16).padStart(2, "0")}`);
@@ -58,7 +58,7 @@ function refusesListing(text, lineNumber, reason, column) {
 /** The column, from 1, at which a part of a line begins. */
 const columnOf = (text, part) => text.indexOf(part) + 1;
 
-test("the three lines of document 01", () => {
+test("the three lines of the whole case", () => {
   const events = readListing(listing(...DOCUMENT_LINES));
   assert.deepEqual(events.map((event) => event.key), [9007199254740992n, 9007199254740993n, 9007199254740994n]);
   assert.deepEqual(events[1], {
@@ -286,7 +286,7 @@ test("a listing has at most 2,046 lines", () => {
   refusesListing(listing(...farthest(2047)), 2047, /at most 2046 lines/, 1);
 });
 
-test("a refusal tells where the line stops being one of document 01", () => {
+test("a refusal tells where the line stops being one of the listing", () => {
   const place = (text, part, reason) => refuses(text, reason, columnOf(text, part));
   refuses("", /expected/, 1);
   refuses(` ${line()}`, /expected/, 1);

@@ -74,7 +74,7 @@ pub record CallsRefuse : Type 0 where
       let s = now (a .0) in let old = now (a .1 .0) in let new = last .1 .0 in
       RefusesAndKeeps (mendingRows s (headerOf s) (length old)) old new (mendedTold x))
 
--- of the second demand its last clause: in what leaves, the JSON numbers are the digits of the numbers up to two to the fifty-third, in their order.
+-- of the second demand its last clause: in what leaves, the JSON numbers are the digits of the numbers below two to the fifty-third, in their order.
 -- (The rest of it is of the definitions, and `calls` says that these are what the contracts allow.)
 pub record NumbersLeave : Type 0 where
   pub line : Allows listing.line.ended listing.line.Reads.Learnt (λ κs a x last.

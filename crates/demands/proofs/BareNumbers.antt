@@ -11,14 +11,14 @@ use lib.IntN.{pos}
 use borrow.Author.Tests.{ltb-true}
 use Rattle.doubles.proofs.Alone as doubles
 use Rattle.doubles.proofs.Rule.{double-rounds, one-double, spacing-is}
-use Rattle.doubles.proofs.Values.{cast-value, double-same, value-back}
+use Rattle.doubles.proofs.Values.{cast-only, cast-value, double-same, value-back}
 use Rattle.doubles.specs.Doubles.{double, spacing}
 use Rattle.text.proofs.ReadBack.{bare-seen, digits-back, inside-quotes, quotes-seen}
 use Rattle.text.specs.Ascii.{choose}
 use Rattle.text.specs.Numbers.{digits, isBare, number, quoted}
 use Rattle.text.specs.ReadBack.{decimal}
 use Rattle.demands.specs.BareNumbers.{BareNumbers}
-use Rattle.demands.specs.Page.{Read, TakenForOne, asDouble, float, readByPage, string}
+use Rattle.demands.specs.Page.{OnPage, TakenForOne, asDouble, float, readByPage, string}
 
 below : (n : ℕ) → isBare n ≡ true → n < 2 ^ 53
 unfolding isBare
@@ -33,29 +33,25 @@ turns-back n most = value-back (asDouble n) n (exactly n most) ∙ omega arith
 alone : (n m : ℕ) → isBare n ≡ true → asDouble m ≡ asDouble n → m ≡ n
 alone n m bare same = doubles.alone-as-float n m (below n bare) same
 
--- what a page reads of a number, bare or quoted
-readOf : Bool → ℕ → Read
-readOf true n = float (asDouble n)
-readOf false n = string (digits n)
+read-bare : (n : ℕ) → readByPage (digits n) ≡ float (asDouble n)
+read-bare n = rw (bare-seen n, digits-back n)
 
-read-is : (n : ℕ) → readByPage (number n) ≡ readOf (isBare n) n
-unfolding number readOf
-read-is n = by (isBare n)
-  where
-    by : (bare : Bool) → readByPage (choose bare (digits n) (quoted (digits n))) ≡ readOf bare n
-    by true = rw (bare-seen n, digits-back n)
-    by false = rw (quotes-seen (digits n), inside-quotes (digits n))
+read-quoted : (n : ℕ) → readByPage (quoted (digits n)) ≡ string (digits n)
+read-quoted n = rw (quotes-seen (digits n), inside-quotes (digits n))
 
--- one double, where either is bare, or one text
+-- two that are taken for one have one double, where either is bare, or one text
 read-apart : (m n : ℕ) → TakenForOne (readByPage (number m)) (readByPage (number n)) → m ≡ n
-unfolding readOf
-read-apart m n taken = by (isBare m) (isBare n) refl refl (rw (read-is m, read-is n) at taken)
+unfolding number
+read-apart m n taken = by (isBare m) (isBare n) refl refl taken
   where
-    by : (first second : Bool) → isBare m ≡ first → isBare n ≡ second → TakenForOne (readOf first m) (readOf second n) → m ≡ n
-    by true true bare too same = alone n m too same
-    by true false bare not same = sym (alone m n bare (sym (same ∙ ap asDouble (digits-back n))))
-    by false true not bare same = alone n m bare (ap asDouble (sym (digits-back m)) ∙ same)
-    by false false not nor same = sym (digits-back m) ∙ ap decimal same ∙ digits-back n
+    reads : Bool → ℕ → OnPage
+    reads bare k = readByPage (choose bare (digits k) (quoted (digits k)))
+
+    by : (first second : Bool) → isBare m ≡ first → isBare n ≡ second → TakenForOne (reads first m) (reads second n) → m ≡ n
+    by true true bare too same = alone n m too (rw (read-bare m, read-bare n) at same)
+    by true false bare not same = sym (alone m n bare (sym (rw (read-bare m, read-quoted n, digits-back n) at same)))
+    by false true not bare same = alone n m bare (rw (read-quoted m, read-bare n, digits-back m) at same)
+    by false false not nor same = sym (digits-back m) ∙ ap decimal (rw (read-quoted m, read-quoted n) at same) ∙ digits-back n
 
 rounded-down : double 9007199254740993 ≡ 9007199254740992
 unfolding double spacing size
@@ -68,6 +64,9 @@ collide =
     let below : HasValue (asDouble 9007199254740992) false 9007199254740992 1 = exactly 9007199254740992 (omega arith) in
     whole-unique binary64 (asDouble 9007199254740993) (asDouble 9007199254740992) false 9007199254740992 (ofInt-fits binary64 (pos 9007199254740993)) (ofInt-fits binary64 (pos 9007199254740992)) above below
 
+taken : TakenForOne (readByPage (digits 9007199254740992)) (readByPage (quoted (digits 9007199254740993)))
+taken = rw (read-bare 9007199254740992, read-quoted 9007199254740993, digits-back 9007199254740993) (sym collide)
+
 pub bare-numbers : BareNumbers
 unfolding isBare
 bare-numbers = record {
@@ -75,13 +74,17 @@ bare-numbers = record {
   rounded = double-rounds;
   no-other = one-double;
   cast = cast-value;
+  cast-only = cast-only;
   held = λ n most. record { rule = double-same n most; value = exactly n most; back = turns-back n most };
   below = below;
   alone = λ n m bare. doubles.alone n m (below n bare);
   alone-as-float = alone;
+  read-bare = read-bare;
+  read-quoted = read-quoted;
   on-page = read-apart;
   last = refl;
   next = refl;
   one-value = rounded-down ∙ sym (double-same 9007199254740992 (omega arith));
   one-double = collide;
+  taken = taken;
 }

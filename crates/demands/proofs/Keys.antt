@@ -17,7 +17,7 @@ use Rattle.trace.specs.Layout.{headerOf}
 use Rattle.trace.specs.Slots.{eventCount}
 use Rattle.trace.specs.Table.{row14, row15, row25}
 use Rattle.demands.specs.Keys.{Keys, keyAt}
-use Rattle.demands.specs.Page.{TakenForOne, Wrote, by-itself, in-listing, keyText, lineIn, readByPage}
+use Rattle.demands.specs.Page.{TakenForOne, WrittenLine, by-itself, in-listing, keyText, lineIn, readByPage}
 use Rattle.demands.specs.Shown.{ReadingAccepted}
 use Rattle.demands.proofs.Answers.{gave-accepted, wrote-front}
 use Rattle.demands.proofs.BareNumbers.{bare-numbers}
@@ -62,7 +62,7 @@ of-line : (s : List ℕ) (r : Reading) (p : ℕ) (line : List ℕ) {rows : List 
 of-line s r p line passed rate terms below is =
     record { events = eventCount s (headerOf s); reading = accepted r _ passed rate terms; one-of = below; has-key = ap keyText is ∙ line-key s (headerOf s) r p }
 
-of-event : (r : Reading) (p : ℕ) (line : List ℕ) → Wrote r p line → OfEvent r p line
+of-event : (r : Reading) (p : ℕ) (line : List ℕ) → WrittenLine r p line → OfEvent r p line
 unfolding row25
 of-event r p line (in-listing s old new n gave below is) =
     let text = wrote-front _ _ old new n gave ∙ sym (append-nil _) in
@@ -75,7 +75,7 @@ of-event r p line (by-itself s old new n gave is) =
     (leb-false _ _ (unbroken passed (row25 p (eventCount s (headerOf s))) (search among depth 20)))
     (is ∙ ap (λ (t : List ℕ). lineIn t 0) text ∙ first-line s (headerOf s) r p [])
 
-on-page : (one two : Reading) (p q : ℕ) (a b : List ℕ) → Wrote one p a → Wrote two q b
+on-page : (one two : Reading) (p q : ℕ) (a b : List ℕ) → WrittenLine one p a → WrittenLine two q b
     → TakenForOne (readByPage (keyText a)) (readByPage (keyText b)) → (one .unit ≡ two .unit) × (one .serial + p ≡ two .serial + q)
 on-page one two p q a b first second taken =
     let x = of-event one p a first in

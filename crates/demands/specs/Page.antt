@@ -21,15 +21,16 @@ use Rattle.trace.specs.Slots.{eventCount}
 abbrev pub asDouble : ℕ → Float
 asDouble n = ofInt binary64 (pos n)
 
-pub data Read : Type 0 where
-  float : Float → Read
-  string : List ℕ → Read
+-- what it has then
+pub data OnPage : Type 0 where
+  float : Float → OnPage
+  string : List ℕ → OnPage
 
-abbrev pub readByPage : List ℕ → Read
+abbrev pub readByPage : List ℕ → OnPage
 readByPage text = cond (isQuoted text) (string (inside text)) (float (asDouble (decimal text)))
 
 -- a page takes two for one where they are equal; between a double and a string, where the string's double is that one, as a loose comparison has it
-abbrev pub TakenForOne : Read → Read → Type 0
+abbrev pub TakenForOne : OnPage → OnPage → Type 0
 TakenForOne (float x) (float y) = x ≡ y
 TakenForOne (string s) (string t) = s ≡ t
 TakenForOne (float x) (string t) = x ≡ asDouble (decimal t)
@@ -56,10 +57,10 @@ abbrev pub keyText : List ℕ → List ℕ
 keyText line = upTo 0x2C (drop (length (ascii "{\"key\":")) line)
 
 -- a line that was written for the event at a position of a reading: in a listing, or by itself
-pub data Wrote (r : Reading) (p : ℕ) (line : List ℕ) : Type 0 where
+pub data WrittenLine (r : Reading) (p : ℕ) (line : List ℕ) : Type 0 where
   in-listing : (s old new : List ℕ) (n : ℕ)
       → Gave (listingRows s (headerOf s) r (length old)) (listingText s (headerOf s) r) old new (Written n)
-      → p < eventCount s (headerOf s) → line ≡ lineIn (take n new) p → Wrote r p line
+      → p < eventCount s (headerOf s) → line ≡ lineIn (take n new) p → WrittenLine r p line
   by-itself : (s old new : List ℕ) (n : ℕ)
       → Gave (lineRows s (headerOf s) r p (length old)) (lineAt s (headerOf s) r p) old new (Written n)
-      → line ≡ lineIn (take n new) 0 → Wrote r p line
+      → line ≡ lineIn (take n new) 0 → WrittenLine r p line

@@ -29,7 +29,7 @@ fn exact_back(x: u64) -> u64
     double as u64
 }
 
-// Above the limit a plain cast is undefined, so the kit's own stand here. The double of the largest numbers is two to the 64, which no u64 holds.
+// Above EXACT a plain cast is undefined, so the kit's own stand here. The double of the largest numbers is two to the 64, which no u64 holds.
 fn rounded_back(x: u64) -> u64
     ensures { λ r. ⌜ r ≡ min (double x) (2 ^ 64 - 1) ⌝ }
 {

@@ -1,4 +1,4 @@
-// Prints numbers: digits, in quotes where another number may have the same double.
+// Prints numbers: digits, in quotes from two to the fifty-third on.
 ghost use mathlib.Core.Path.{_≡_};
 ghost use Prim.Native.Nat.{_+_, _≤_, _<_};
 ghost use lib.Dec.{ltb};

@@ -1,4 +1,4 @@
--- Numbers in a line: digits, in quotes where another number may have the same double.
+-- Numbers in a line: digits, in quotes from two to the fifty-third on.
 use Prim.Native.Nat.{ℕ, zero, suc, _+_, _/_, _%_, _^_}
 use mathlib.Core.Bool.{Bool}
 use mathlib.Core.List.{List, [], _∷_, _++_}
