@@ -16,7 +16,7 @@ pub record IsHeld (n : ℕ) : Type 0 where
 
 pub record BareNumbers : Type 0 where
   -- the double of a whole number is that number rounded to 53 significant bits, ties to even; no other number is; and the cast's double has that value,
-  -- where it is of 64 bits, and none but that, of whatever size
+  -- where the number is of 64 bits, and no other value, of whatever size the number is
   pub significant : (n : ℕ) → IsSpacing n (spacing n)
   pub rounded : (n : ℕ) → Rounded n (spacing n) (double n)
   pub no-other : (n u r : ℕ) → IsSpacing n u → Rounded n u r → r ≡ double n

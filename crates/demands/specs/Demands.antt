@@ -143,8 +143,8 @@ pub record SecondDemand : Type 0 where
   pub json : JsonLines
   -- what is printed reads back
   pub texts : Texts
-  -- "and no whole number at or above two to the fifty-third leaves as a JSON number." (document 02, A3): in what was written, the JSON numbers are the digits of the lines' bare
-  -- numbers, in their order, and nothing else
+  -- "and no whole number at or above two to the fifty-third leaves as a JSON number." (document 02, A3): in what was written, the JSON numbers are the
+  -- digits of the lines' bare numbers, in their order, and nothing else
   pub numbers : (s : List ℕ) (r : Reading) (old new : List ℕ) (n : ℕ)
       → Gave (listingRows s (headerOf s) r (length old)) (listingText s (headerOf s) r) old new (listed.Written n)
       → jsonNumbers (take n new) ≡ map digits (keep isBare (listedNumbers s (headerOf s) r))

@@ -21,7 +21,7 @@ use Rattle.trace.specs.Slots.{eventCount}
 abbrev pub asDouble : ℕ → Float
 asDouble n = ofInt binary64 (pos n)
 
--- what it has then
+-- what it has of a number: a double, or the characters of a string
 pub data OnPage : Type 0 where
   float : Float → OnPage
   string : List ℕ → OnPage
