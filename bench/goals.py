@@ -32,5 +32,7 @@ GOALS += [("check", "sum", 0.5), ("check", "copy", 0.5)]
 # No check is slower than Rust by hand.
 CHECKS = ["check", "check-big", "check-entries", "check-refused-last", "check-refused-first"]
 GOALS += [(job, "plain", 1) for job in CHECKS]
+# A check in pieces takes at most ten times as long as that of the whole dump, and a hundred times where each piece is one byte.
+GOALS += [("pieces-1024", "lepsaino-whole", 0.1), ("pieces-1", "lepsaino-whole", 0.01)]
 # Recording takes at most one and a half times the time of Rust behind a call, as the library is.
 GOALS += [(job, "plain-call", 1 / 1.5) for job in ["record", "record-big"]]

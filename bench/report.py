@@ -35,7 +35,9 @@ def time_text(nanoseconds):
 
 
 def ratio_text(ratio):
-    return f"{ratio:.2f}" if ratio < 10 else f"{ratio:.0f}"
+    # A goal may be a hundredth.
+    digits = 4 if ratio < 0.1 else 2 if ratio < 10 else 0
+    return f"{ratio:.{digits}f}"
 
 
 def goals(times):

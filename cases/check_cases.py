@@ -207,6 +207,15 @@ def seeded(chance):
     return dump
 
 
+cuts = Chance(96)
+
+
+def calls(raw, said):
+    """The check of the whole, and of the same bytes in pieces, cut by chance: a first piece, an empty one, and others of one length."""
+    given = [(cuts.below(len(raw) + 1), step) for step in (1 if len(raw) < 4096 else 64, 1 + cuts.below(80), 65536)]
+    return [("c", (), said)] + [("p", cut, said) for cut in given]
+
+
 for group in (sound, length, identity, mask, name_size, registry, buffer, cut_short, types, ring, ids, order_of_rows):
     group()
 
@@ -220,9 +229,9 @@ for order, word in WORDS.items():
             said = given if given.split()[0] == word and given.split()[-1] == str(expected) else None
         if said is None:
             sys.exit(f"{name}, {word}: by hand {expected}, by rule {given}")
-        cases.add(f"{name}, {word}", raw, [("c", (), said)])
+        cases.add(f"{name}, {word}", raw, calls(raw, said))
 
 chance = Chance(2026)
 for index in range(600):
     raw = seeded(chance).bytes(chance.one("<", ">"))
-    cases.add(f"seeded {index}", raw, [("c", (), answer(raw))])
+    cases.add(f"seeded {index}", raw, calls(raw, answer(raw)))

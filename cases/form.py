@@ -13,6 +13,7 @@ MOST_ROOM = {"l": 1599000, "a": 1599000, "m": 65900}
 # A call's arguments as the programs read them, by the call's letter.
 ARGUMENTS = {
     "c": lambda: b"",
+    "p": lambda first, step: struct.pack("<II", first, step - 1),
     "e": lambda position: struct.pack("<Q", position),
     "n": lambda pointer: struct.pack("<I", pointer),
     "l": lambda reading, position, room: struct.pack("<IIQQI", *reading, position, room),

@@ -42,7 +42,7 @@ def callable_in(crate):
 def named_in(theorem):
     """The functions whose contracts a theorem speaks of."""
     text = theorem.read_text()
-    crate = dict(re.findall(r"^use Rattle·(\w+)\.proofs as (\w+)", text, re.M))
+    crate = dict(re.findall(r"^use Rattle·(\w+)\.proofs(?:\.\w+)? as (\w+)", text, re.M))
     crate = {alias: name for name, alias in crate.items()}
     found = re.findall(r"^  pub «?(\w+)»? : Settled(?:As)? (\w+)\.«?(\w+)»?\.ended", text, re.M)
     return {(crate[alias], function) for field, alias, function in found}

@@ -133,8 +133,40 @@ struct lepsaino_object {
     uint8_t reserved_two;
 };
 
+/*
+ * The state of a check in pieces: 176 bytes, of which 60 can hold bytes of the dump, and the rest are numbers. It is the caller's, who begins with
+ * lepsaino_begin and otherwise only hands it on; the fields are here so that a C compiler knows its size. A state may be copied, kept and fed in two ways.
+ */
+struct lepsaino_pieces {
+    uint8_t header[48];  /* the header's bytes */
+    size_t entries;      /* where the header says that the registry and the slots lie */
+    size_t entry_size;
+    size_t start;
+    size_t slots;
+    size_t slot_size;
+    size_t current;
+    uint8_t front[12];   /* the first bytes of the entry or slot that has not come whole */
+    size_t came;         /* how many of its bytes have come */
+    size_t entries_passed; /* of the entries that came whole: how many, and the lowest with a type that is not allowed */
+    size_t bad_type;
+    size_t slots_passed; /* of the slots that came whole: how many, and the lowest unused, used behind current, and used with the id 0 */
+    size_t unused;
+    size_t behind;
+    size_t no_id;
+    size_t total;        /* how many bytes have come, 65,537 where there were more */
+};
+
 /* Checks a dump: 1 to 13. */
 struct lepsaino_checked lepsaino_check(const uint8_t *dump, size_t dump_length);
+
+/* Checks a dump that comes in pieces: the state before any byte. */
+struct lepsaino_pieces lepsaino_begin(void);
+
+/* The state after one piece more, of any length, cut anywhere. Nothing is refused before the finish. */
+struct lepsaino_pieces lepsaino_feed(struct lepsaino_pieces state, const uint8_t *piece, size_t piece_length);
+
+/* What lepsaino_check gives on all the bytes that were fed. */
+struct lepsaino_checked lepsaino_finish(struct lepsaino_pieces state);
 
 /* One event by its position, from 0, oldest first: checks 1 to 13, then 25. */
 struct lepsaino_event lepsaino_event(const uint8_t *dump, size_t dump_length, size_t position);

@@ -1,12 +1,15 @@
 //! The baselines in Rust do all that documents 01 and 02 ask: they give what the peer gives, refusals too.
 
 use crate::competitors::refused_by_peer;
+use crate::feeders::{by_hand, by_library};
 use crate::files::agreed_mending;
 use crate::plain::check::check;
 use crate::plain::find::find_name;
 use crate::plain::record::record;
+use crate::plain::units::split;
 use crate::with_itoa;
 use peer::call::Call;
+use peer::generate::chance::Chance;
 use peer::generate::Generator;
 
 const CASES: usize = 20_000;
@@ -32,6 +35,27 @@ fn compare_check(dump: &[u8]) {
     assert_eq!(check(dump), expected.map_err(refused_by_peer));
 }
 
+/// The answer to the pieces is that to the whole.
+fn compare_pieces(dump: &[u8], chance: &mut Chance) {
+    let expected = peer::check(dump).map(|summary| summary.events);
+    let expected = expected.map_err(refused_by_peer);
+    let pieces = cut(dump, chance);
+    assert_eq!(by_hand(pieces.iter().copied()), expected);
+    assert_eq!(by_library(pieces.iter().copied()), expected);
+}
+
+/// Cuts the dump anywhere; some pieces are empty.
+fn cut<'a>(mut rest: &'a [u8], chance: &mut Chance) -> Vec<&'a [u8]> {
+    let longest = chance.pick(&[1, 2, 7, 40, 300, 70_000]);
+    let mut pieces = Vec::new();
+    while !rest.is_empty() {
+        let (piece, further) = split(rest, chance.between(0, longest));
+        pieces.push(piece);
+        rest = further;
+    }
+    pieces
+}
+
 /// The same bytes at the same place.
 fn compare_name(dump: &[u8], pointer: u32) {
     let given = find_name(dump, pointer).map(|name| name.map(<[u8]>::as_ptr_range));
@@ -49,6 +73,7 @@ fn compare_record(buffer: &mut [u8], words: &[u32; 8]) {
 #[test]
 fn baselines_agree_with_the_peer() {
     let mut generator = Generator::new(1);
+    let mut chance = Chance::new(1);
     for _ in 0..CASES {
         let case = generator.next_case();
         let mut buffer = case.buffer();
@@ -57,7 +82,10 @@ fn baselines_agree_with_the_peer() {
                 Call::Line { reading, .. } | Call::Listing { reading, .. } => {
                     compare_listing(&buffer, reading)
                 }
-                Call::Check => compare_check(&buffer),
+                Call::Check => {
+                    compare_check(&buffer);
+                    compare_pieces(&buffer, &mut chance);
+                }
                 Call::FindName { pointer } => compare_name(&buffer, *pointer),
                 Call::Record(words) => compare_record(&mut buffer, words),
                 Call::Mend { room } => drop(agreed_mending(&buffer, *room as usize)),

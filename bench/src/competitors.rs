@@ -73,11 +73,14 @@ pub const PRINTERS: [(&str, Printer); 3] = [
     }),
 ];
 
+/// The library's check of a whole dump.
+pub const CHECK: Checker = |dump| match lepsaino::check(dump) {
+    Ok(checked) => Ok(checked.events),
+    Err(refusal) => Err(refused(refusal)),
+};
+
 pub const CHECKERS: [(&str, Checker); 4] = [
-    ("lepsaino", |dump| match lepsaino::check(dump) {
-        Ok(checked) => Ok(checked.events),
-        Err(refusal) => Err(refused(refusal)),
-    }),
+    ("lepsaino", CHECK),
     ("plain", |dump| check::check(dump)),
     ("plain-call", |dump| called::check(dump)),
     ("peer", |dump| match peer::check(dump) {
@@ -136,7 +139,7 @@ pub const COPIER: (&str, Reader) = ("copy", |dump, copy| {
     u64::from(copy[0])
 });
 
-fn refused(refusal: lepsaino::Refusal) -> Refusal {
+pub fn refused(refusal: lepsaino::Refusal) -> Refusal {
     (refusal.number, refusal.place)
 }
 

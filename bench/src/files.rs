@@ -2,6 +2,7 @@
 
 use crate::competitors::{Lister, CHECKERS, FINDERS, MENDERS, PRINTERS, RECORDERS};
 use crate::dumps::{full, with_names, Dump, LARGEST, LITTLE};
+use crate::feeders::FEEDERS;
 use crate::jobs::{Job, Work, JOBS, RECORDED};
 use crate::numbers::fixed;
 use crate::plain::Refusal;
@@ -30,7 +31,8 @@ fn answer(job: &Job) -> Vec<u8> {
     let dump = (job.dump)();
     match job.work {
         Work::List(listers) => agreed_listing(&dump, listers),
-        Work::Check(expected) => checked(&dump, expected).into_bytes(),
+        Work::Check(expected) => checked(&dump, expected),
+        Work::Feed(length, expected) => fed(&dump, length, expected),
         Work::Find(pointer, expected) => found(&dump, pointer, expected).to_vec(),
         Work::Record => recorded(&dump),
         Work::Mend(expected) => mended(&dump, expected),
@@ -45,12 +47,22 @@ pub fn agreed_listing(dump: &Dump, listers: &[(&'static str, Lister)]) -> Vec<u8
     }))
 }
 
-fn checked(dump: &Dump, expected: Result<usize, Refusal>) -> String {
+fn checked(dump: &Dump, expected: Result<usize, Refusal>) -> Vec<u8> {
     let answer = agreed(CHECKERS.map(|(name, check)| (name, check(&dump.bytes))));
     assert_eq!(answer, expected);
+    verdict(answer)
+}
+
+fn fed(dump: &Dump, length: usize, expected: Result<usize, Refusal>) -> Vec<u8> {
+    let answer = agreed(FEEDERS.map(|(name, feed)| (name, feed(&dump.bytes, length))));
+    assert_eq!(answer, expected);
+    verdict(answer)
+}
+
+fn verdict(answer: Result<usize, Refusal>) -> Vec<u8> {
     match answer {
-        Ok(events) => format!("{events}\n"),
-        Err((number, place)) => format!("refused by {number} at {place}\n"),
+        Ok(events) => format!("{events}\n").into_bytes(),
+        Err((number, place)) => format!("refused by {number} at {place}\n").into_bytes(),
     }
 }
 

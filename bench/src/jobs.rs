@@ -6,6 +6,7 @@ use crate::competitors::{RECORDERS, ROOMS};
 use crate::contest::{contest, opaque, Competitor, Measure};
 use crate::dumps::{empty, full, half, thread, with_entries, with_names, without_id};
 use crate::dumps::{Dump, BIG, LARGEST, LITTLE};
+use crate::feeders::{Feeder, FEEDERS};
 use crate::numbers::fixed;
 use crate::plain::Refusal;
 use lepsaino::Mended;
@@ -14,9 +15,11 @@ use lepsaino::Mended;
 pub const RECORDED: u32 = 1_000_000;
 
 /// What is done to a dump; for a listing, by whom; for a check, a search and a mending, what must come of it.
+/// Pieces have their length first.
 pub enum Work {
     List(&'static [(&'static str, Lister)]),
     Check(Result<usize, Refusal>),
+    Feed(usize, Result<usize, Refusal>),
     Find(u32, &'static [u8]),
     Record,
     Mend(Mended),
@@ -29,7 +32,7 @@ pub struct Job {
 }
 
 /// All but the numbers, which have no dump.
-pub const JOBS: [Job; 16] = [
+pub const JOBS: [Job; 18] = [
     job("listing-full", || full(LITTLE), Work::List(&LISTERS)),
     job("listing-big", || full(BIG), Work::List(&LISTERS)),
     job("listing-exact", || full(LITTLE), Work::List(&ROOMS)),
@@ -47,6 +50,8 @@ pub const JOBS: [Job; 16] = [
         || without_id(0),
         Work::Check(Err((13, 0))),
     ),
+    job("pieces-1024", || full(LITTLE), Work::Feed(1_024, Ok(2_046))),
+    job("pieces-1", || full(LITTLE), Work::Feed(1, Ok(2_046))),
     job(
         "find-last",
         with_entries,
@@ -111,7 +116,9 @@ fn time(job: &Job, rounds: usize) {
     }
     let (calls, parts, rounds) = match job.work {
         Work::List(_) => (1, 1, rounds),
-        Work::Check(_) | Work::Find(..) | Work::Mend(_) => (20, 1, rounds),
+        // Fed byte by byte a dump takes a millisecond, and longer turns are interrupted.
+        Work::Feed(1, _) => (2, 1, rounds),
+        Work::Check(_) | Work::Feed(..) | Work::Find(..) | Work::Mend(_) => (20, 1, rounds),
         // A million events take as long as a hundred listings.
         Work::Record => (1, RECORDED as usize, (rounds / 20).max(3)),
     };
@@ -123,6 +130,7 @@ pub fn competitors<'a>(job: &Job, dump: &'a Dump, recorded: u32) -> Vec<Competit
     match job.work {
         Work::List(listers) => listers.iter().map(|entry| lister(*entry, dump)).collect(),
         Work::Check(_) => CHECKERS.map(|entry| checker(entry, dump)).into(),
+        Work::Feed(length, _) => FEEDERS.map(|entry| feeder(entry, dump, length)).into(),
         Work::Find(pointer, _) => FINDERS.map(|entry| finder(entry, dump, pointer)).into(),
         Work::Record => RECORDERS
             .map(|entry| recorder(entry, dump, recorded))
@@ -139,6 +147,15 @@ pub fn lister<'a>((name, list): (&'static str, Lister), dump: &'a Dump) -> Compe
 
 fn checker<'a>((name, check): (&'static str, Checker), dump: &'a Dump) -> Competitor<'a> {
     let call = move || check(opaque(&dump.bytes)).unwrap_or_else(|(_, place)| place) as u64;
+    Competitor::new(name, call)
+}
+
+fn feeder<'a>(
+    (name, feed): (&'static str, Feeder),
+    dump: &'a Dump,
+    length: usize,
+) -> Competitor<'a> {
+    let call = move || feed(opaque(&dump.bytes), opaque(length)).unwrap() as u64;
     Competitor::new(name, call)
 }
 

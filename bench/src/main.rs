@@ -6,6 +6,7 @@ mod agreement;
 mod competitors;
 mod contest;
 mod dumps;
+mod feeders;
 mod files;
 mod growth;
 mod jobs;

@@ -17,7 +17,7 @@ pub fn run(job: &str, competitor: &str, times: u32) -> Option<()> {
     }
     let parts = match job.work {
         Work::List(_) => dump.events,
-        Work::Check(_) | Work::Find(..) | Work::Mend(_) => 1,
+        Work::Check(_) | Work::Feed(..) | Work::Find(..) | Work::Mend(_) => 1,
         Work::Record => RECORDED as usize,
     };
     println!("{parts}");

@@ -1,11 +1,22 @@
 //! The same behind calls that are not inlined, as the library's are.
 
+use super::pieces::Pieces;
 use super::{check, find, mend, record, Refusal};
 use lepsaino::Mended;
 
 #[inline(never)]
 pub fn check(dump: &[u8]) -> Result<usize, Refusal> {
     check::check(dump)
+}
+
+#[inline(never)]
+pub fn feed(state: &mut Pieces, piece: &[u8]) {
+    state.feed(piece)
+}
+
+#[inline(never)]
+pub fn finish(state: &Pieces) -> Result<usize, Refusal> {
+    state.finish()
 }
 
 #[inline(never)]

@@ -8,7 +8,9 @@ pub mod find;
 pub mod layout;
 pub mod mend;
 pub mod names;
+pub mod pieces;
 pub mod record;
+pub mod units;
 pub mod words;
 
 /// A number and a place, as documents 01 and 02 give them.

@@ -1,6 +1,7 @@
-// Answers four files of cases: dumps put to the check, questions to the reader, calls that write, dumps that are mended.
+// Answers five files of cases: dumps put to the check, dumps in pieces, questions to the reader, calls that write, dumps that are mended.
 fn main() {
     replies::answer_file(b"check");
+    replies::answer_file(b"pieces");
     replies::answer_file(b"reader");
     replies::answer_file(b"writer");
     replies::answer_file(b"mender");

@@ -15,4 +15,7 @@ calls = record {
   register = λ κs a p. p .allowed;
   remove = λ κs a p. p .allowed;
   mend = λ κs a p. p .allowed;
+  begin = λ κs a p. p .allowed;
+  feed = λ κs a p. p .allowed;
+  finish = λ κs a p. p .allowed;
 }

@@ -44,6 +44,7 @@ calls-refuse = record {
       let did = calls .mend κs a p in
       let keeps = demands .first .mending (now (a .0)) (now (a .1 .0)) in
       (rw (did .0) (keeps .0), λ some. did .1 ∙ keeps .1 (rw (did .0) at some));
+  finish = λ κs a p. rw (calls .finish κs a p) (demands .first .finishing _);
 }
 
 -- the front of an output, where a printer has written

@@ -17,6 +17,7 @@ use Rattle.events.specs.declared.Shown.the-variants as shown
 use Rattle.lepsaino_c.specs.Answers.{GaveNumbers, answerOf, checkAnswer, eventAnswer, formatGiven, listedAnswer, mendAnswer, nameAnswer, orderGiven, outcomeAnswer}
 use Rattle.lepsaino_c.specs.declared.answers.Answer.{Answer}
 use Rattle.mending.specs.Mending.{mendOf, mendedTold}
+use Rattle.pieces.specs.Pieces.{finished}
 use Rattle.rows.specs.Rows.{Accepted, Row, firstBroken}
 use Rattle.trace.specs.Check.{checkOf, checkedTold, headerNumbers, orderNumber}
 use Rattle.trace.specs.Names.{findName, foundTold, nameFound, nameNumbers}
@@ -34,6 +35,9 @@ use Rattle.contracts.specs.Interface.{Interface, InterfaceGives, Interfa
 pub interface : Interface
 interface = record {
   «lepsaino_check» = equation (λ κs a v w. refl);
+  «lepsaino_begin» = equation (λ κs a v w. refl);
+  «lepsaino_feed» = equation (λ κs a v w. refl);
+  «lepsaino_finish» = equation (λ κs a v w. refl);
   «lepsaino_event» = equation (λ κs a v w. refl);
   «lepsaino_find_name» = equation (λ κs a v w. refl);
   «lepsaino_line» = leaves (λ κs a x e p. (p .answered, p .gave .output)) (λ κs a v w e i. (tt, (tt, (tt, (e i, tt)))));
@@ -49,6 +53,9 @@ interface = record {
 pub interface-gives : InterfaceGives
 interface-gives = record {
   check = λ κs a p. p .allowed;
+  begin = λ κs a p. p .allowed;
+  feed = λ κs a p. p .allowed;
+  finish = λ κs a p. p .allowed;
   event = λ κs a p. p .allowed;
   «find_name» = λ κs a p. p .allowed;
   line = λ κs a p. (_, p .allowed .answered, p .allowed .gave);
@@ -75,6 +82,7 @@ pub interface-refuses : InterfaceRefuses
 unfolding checkAnswer eventAnswer nameAnswer mendAnswer
 interface-refuses = record {
   check = λ κs a p. (checkedTold (checkOf (now (a .0))), p .allowed, first-demand .checking _);
+  finish = λ κs a p. (checkedTold (finished (a .0)), p .allowed, first-demand .finishing _);
   event = λ κs a p. (shownTold (eventOf (now (a .0)) (a .1 .0)), p .allowed, first-demand .event _ _);
   «find_name» = λ κs a p. (foundTold (findName (now (a .0)) (a .1 .0)), p .allowed, first-demand .finding _ _);
   line = λ κs a p. printed-tells _ _ _ _ _ (first-demand .line _ _ _ _ _ _ (p .allowed .gave)) (p .allowed);
@@ -121,6 +129,7 @@ pub zero-accepts : ZeroAccepts
 unfolding checkAnswer eventAnswer nameAnswer listedAnswer outcomeAnswer mendAnswer
 zero-accepts = record {
   check = λ s none. all-passed _ (first-demand .checking s .zero none .2);
+  finish = λ p none. all-passed _ (first-demand .finishing p .zero none .2);
   event = λ s position none. all-passed _ (first-demand .event s position .zero none .2);
   «find_name» = λ s pointer none. all-passed _ (first-demand .finding s pointer .zero none .2);
   line = λ s r position old new numbers gave none.

@@ -1,5 +1,6 @@
 pub mod Calls
 pub mod Demands
 pub mod Interface
+pub mod Pieces
 pub mod Public
 pub mod Runs

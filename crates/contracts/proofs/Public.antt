@@ -142,6 +142,11 @@ library = record {
   mender = record {
     mend = leaves (λ κs a x e p. p) (λ κs a v w e i. (tt, (e i, tt)));
   };
+  pieces = record {
+    begin = equation (λ κs a v w. refl);
+    feed = equation (λ κs a v w. refl);
+    finish = equation (λ κs a v w. refl);
+  };
   arguments = record {
     «number_in» = equation (λ κs a v w. refl);
   };

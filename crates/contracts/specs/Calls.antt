@@ -1,4 +1,4 @@
--- The calls of document 01, and mending: whatever a contract allows is the answer of which the demands speak.
+-- The calls of document 01, mending, and the check in pieces: whatever a contract allows is the answer of which the demands speak.
 use Prim.Native.Nat.{ℕ}
 use mathlib.Core.List.{List}
 use mathlib.Core.Path.{_≡_}
@@ -14,6 +14,8 @@ use Rattle.listing.proofs as listing
 use Rattle.mender.proofs as mender
 use Rattle.mending.specs.Mending.{copyOf, mendOf, mendingRows}
 use Rattle.mending.specs.declared.Mended as mended
+use Rattle.pieces.proofs.Pieces as pieces
+use Rattle.pieces.specs.Pieces.{begun, fed, finished}
 use Rattle.recorder.proofs as recorder
 use Rattle.registrar.proofs as registrar
 use Rattle.rows.specs.Lent.{leftIn}
@@ -85,3 +87,7 @@ pub record Calls : Type 0 where
   pub mend : Allows mender.mend.ended mender.mend.Reads.Learnt (λ κs a x last.
       let s = now (a .0) in let old = now (a .1 .0) in let new = last .1 .0 in
       Mended s old new x)
+  -- Pieces::begin(), feed(self, piece), finish(self)
+  pub begin : Allows pieces.begin.ended pieces.begin.Reads.Learnt (λ κs a x last. x ≡ begun)
+  pub feed : Allows pieces.feed.ended pieces.feed.Reads.Learnt (λ κs a x last. x ≡ fed (a .0) (now (a .1 .0)))
+  pub finish : Allows pieces.finish.ended pieces.finish.Reads.Learnt (λ κs a x last. x ≡ finished (a .0))

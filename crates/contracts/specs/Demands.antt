@@ -1,4 +1,4 @@
--- The first demand of the nine calls of document 01 and of mending, and the last clause of the second of whatever prints, of the functions themselves: whatever answers their contracts allow.
+-- The first demand of the nine calls of document 01, of mending and of the finish of a check in pieces, and the last clause of the second of whatever prints, of the functions themselves: whatever answers their contracts allow.
 use Prim.Native.Nat.{ℕ, _^_, _≤_, _<_}
 use mathlib.Core.List.{[], _∷_, map}
 use mathlib.Core.Path.{_≡_}
@@ -19,6 +19,8 @@ use Rattle.mender.proofs as mender
 use Rattle.mending.specs.Mending.{mendedTold, mendingRows}
 use Rattle.names.proofs as names
 use Rattle.numbers.proofs as numbers
+use Rattle.pieces.proofs.Pieces as pieces
+use Rattle.pieces.specs.Pieces.{finishRows}
 use Rattle.recorder.proofs as recorder
 use Rattle.registrar.proofs as registrar
 use Rattle.text.specs.Numbers.{digits, isBare}
@@ -73,6 +75,8 @@ pub record CallsRefuse : Type 0 where
   pub mend : Allows mender.mend.ended mender.mend.Reads.Learnt (λ κs a x last.
       let s = now (a .0) in let old = now (a .1 .0) in let new = last .1 .0 in
       RefusesAndKeeps (mendingRows s (headerOf s) (length old)) old new (mendedTold x))
+  -- finish(self), by what the state shows; that this is the whole check of the bytes fed, `checks-in-pieces` says
+  pub finish : Allows pieces.finish.ended pieces.finish.Reads.Learnt (λ κs a x last. Refuses (finishRows (a .0)) (checkedTold x))
 
 -- of the second demand its last clause: in what leaves, the JSON numbers are the digits of the numbers below two to the fifty-third, in their order.
 -- (The rest of it is of the definitions, and `calls` says that these are what the contracts allow.)

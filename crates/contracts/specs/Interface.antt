@@ -17,6 +17,8 @@ use Rattle.lepsaino_c.specs.declared.answers.Answer.{Answer}
 use Rattle.mending.specs.Mending.{mendOf, mendingRows}
 use Rattle.mending.specs.declared.Mended.the-variants.{Copied}
 use Rattle.mending.specs.declared.Repairs.{Repairs}
+use Rattle.pieces.specs.Pieces.{begun, fed, finishRows, finished}
+use Rattle.pieces.specs.declared.Pieces.{Pieces}
 use Rattle.rows.specs.Rows.{Accepted, Row}
 use Rattle.rows.specs.Told.{Told, toldRefusal}
 use Rattle.rows.specs.declared.Refusal.{Refusal}
@@ -41,6 +43,9 @@ use Rattle.contracts.specs.Settled.{Settled}
 
 pub record Interface : Type 0 where
   pub «lepsaino_check» : Settled calls.«lepsaino_check».ended calls.«lepsaino_check».Reads.Asked calls.«lepsaino_check».Reads.Learnt
+  pub «lepsaino_begin» : Settled calls.«lepsaino_begin».ended calls.«lepsaino_begin».Reads.Asked calls.«lepsaino_begin».Reads.Learnt
+  pub «lepsaino_feed» : Settled calls.«lepsaino_feed».ended calls.«lepsaino_feed».Reads.Asked calls.«lepsaino_feed».Reads.Learnt
+  pub «lepsaino_finish» : Settled calls.«lepsaino_finish».ended calls.«lepsaino_finish».Reads.Asked calls.«lepsaino_finish».Reads.Learnt
   pub «lepsaino_event» : Settled calls.«lepsaino_event».ended calls.«lepsaino_event».Reads.Asked calls.«lepsaino_event».Reads.Learnt
   pub «lepsaino_find_name» : Settled calls.«lepsaino_find_name».ended calls.«lepsaino_find_name».Reads.Asked calls.«lepsaino_find_name».Reads.Learnt
   pub «lepsaino_line» : Settled calls.«lepsaino_line».ended calls.«lepsaino_line».Reads.Asked calls.«lepsaino_line».Reads.Learnt
@@ -59,6 +64,9 @@ InNumbers struct gives x = (answer : _) × (x ≡ struct answer) × gives answer
 -- whatever the contract of a call for C allows is what the library's own call gives, in numbers, and what that call leaves
 pub record InterfaceGives : Type 0 where
   pub check : Allows calls.«lepsaino_check».ended calls.«lepsaino_check».Reads.Learnt (λ κs a x last. x ≡ checkAnswer (checkOf (now (a .0))))
+  pub begin : Allows calls.«lepsaino_begin».ended calls.«lepsaino_begin».Reads.Learnt (λ κs a x last. x ≡ begun)
+  pub feed : Allows calls.«lepsaino_feed».ended calls.«lepsaino_feed».Reads.Learnt (λ κs a x last. x ≡ fed (a .0) (now (a .1 .0)))
+  pub finish : Allows calls.«lepsaino_finish».ended calls.«lepsaino_finish».Reads.Learnt (λ κs a x last. x ≡ checkAnswer (finished (a .0)))
   pub event : Allows calls.«lepsaino_event».ended calls.«lepsaino_event».Reads.Learnt (λ κs a x last. x ≡ eventAnswer (eventOf (now (a .0)) (a .1 .0)))
   pub «find_name» : Allows calls.«lepsaino_find_name».ended calls.«lepsaino_find_name».Reads.Learnt (λ κs a x last. x ≡ nameAnswer (findName (now (a .0)) (a .1 .0)))
   pub line : Allows calls.«lepsaino_line».ended calls.«lepsaino_line».Reads.Learnt (λ κs a x last.
@@ -94,6 +102,7 @@ pub record InterfaceRefuses : Type 0 where
   pub check : Allows calls.«lepsaino_check».ended calls.«lepsaino_check».Reads.Learnt (λ κs a x last.
       let s = now (a .0) in
       Tells checkAnswerOf (dumpRows s (headerOf s)) x)
+  pub finish : Allows calls.«lepsaino_finish».ended calls.«lepsaino_finish».Reads.Learnt (λ κs a x last. Tells checkAnswerOf (finishRows (a .0)) x)
   pub event : Allows calls.«lepsaino_event».ended calls.«lepsaino_event».Reads.Learnt (λ κs a x last.
       let s = now (a .0) in let position = a .1 .0 in
       Tells eventAnswerOf (eventRows s (headerOf s) position) x)
@@ -199,6 +208,7 @@ pub record Structs : Type 0 where
 -- where the number handed to a C caller is 0, no row of the call's order is broken
 pub record ZeroAccepts : Type 0 where
   pub check : (s : List ℕ) → checkAnswer (checkOf s) .refusal ≡ 0 → Accepted (dumpRows s (headerOf s))
+  pub finish : (p : Pieces) → checkAnswer (finished p) .refusal ≡ 0 → Accepted (finishRows p)
   pub event : (s : List ℕ) (position : ℕ) → eventAnswer (eventOf s position) .refusal ≡ 0 → Accepted (eventRows s (headerOf s) position)
   pub «find_name» : (s : List ℕ) (pointer : ℕ) → nameAnswer (findName s pointer) .refusal ≡ 0 → Accepted (registryRows s (headerOf s))
   pub line : (s : List ℕ) (r : Reading) (position : ℕ) (old new : List ℕ) (numbers : Answer)

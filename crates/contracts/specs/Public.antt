@@ -17,6 +17,7 @@ use Rattle.mender.proofs as mender
 use Rattle.names.proofs as names
 use Rattle.numbers.proofs as numbers
 use Rattle.output.proofs as output
+use Rattle.pieces.proofs.Pieces as pieces
 use Rattle.recorder.proofs as recorder
 use Rattle.registrar.proofs as registrar
 use Rattle.rows.proofs as rows
@@ -126,6 +127,11 @@ pub record Formatter : Type 0 where
 pub record Mender : Type 0 where
   pub mend : Settled mender.mend.ended mender.mend.Reads.Asked mender.mend.Reads.Learnt
 
+pub record Pieces : Type 0 where
+  pub begin : Settled pieces.begin.ended pieces.begin.Reads.Asked pieces.begin.Reads.Learnt
+  pub feed : Settled pieces.feed.ended pieces.feed.Reads.Asked pieces.feed.Reads.Learnt
+  pub finish : Settled pieces.finish.ended pieces.finish.Reads.Asked pieces.finish.Reads.Learnt
+
 pub record Arguments : Type 0 where
   pub «number_in» : Settled arguments.«number_in».ended arguments.«number_in».Reads.Asked arguments.«number_in».Reads.Learnt
 
@@ -153,6 +159,7 @@ pub record Library : Type 0 where
   pub registrar : Registrar
   pub formatter : Formatter
   pub mender : Mender
+  pub pieces : Pieces
   pub arguments : Arguments
   pub console : Console
 

@@ -1,10 +1,12 @@
 pub mod Answers
 pub mod BareNumbers
+pub mod Bodies
 pub mod Cut
 pub mod CutShort
 pub mod Demands
 pub mod EveryCall
 pub mod Fakes
+pub mod Finished
 pub mod Gives
 pub mod History
 pub mod Json
@@ -20,8 +22,10 @@ pub mod NotRead
 pub mod Offsets
 pub mod OneLine
 pub mod OrderAndTime
+pub mod OutOfTurn
 pub mod Page
 pub mod Patterns
+pub mod Pieces
 pub mod Plain
 pub mod Refusals
 pub mod SameLines

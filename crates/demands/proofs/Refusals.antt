@@ -13,6 +13,7 @@ use Rattle.events.specs.declared.Event.{Event}
 use Rattle.events.specs.declared.Listed.{Listed}
 use Rattle.mending.specs.Mending.{copyOf, mendOf, mendedBy, mendedTold, mendingRows, repairNumbers, repairsOf}
 use Rattle.mending.specs.declared.Repairs.{Repairs}
+use Rattle.pieces.specs.Pieces.{finishRows, finished}
 use Rattle.rows.proofs.Rows.{one-kept, then-broken, then-refused, then-rest}
 use Rattle.rows.specs.Lent.{leftIn}
 use Rattle.rows.specs.Rows.{Accepted, Row, firstBroken, refusal}
@@ -38,6 +39,7 @@ use Rattle.demands.specs.Refusals.{FirstBroken, Refuses, RefusesAndKeeps
 use Rattle.demands.proofs.Cut.{cut, nonsense, only-cut, resumed, says-cut}
 use Rattle.demands.proofs.CutShort.{layout-passed}
 use Rattle.demands.proofs.EveryCall.{all-refused}
+use Rattle.demands.proofs.Pieces.{in-pieces}
 
 -- the first broken row, found and given back
 one-more : (r : Row) (rows : List Row) (f : Refusal) → r .broken ≡ false → FirstBroken rows f → FirstBroken (r ∷ rows) f
@@ -208,7 +210,7 @@ mended-room s room layout fits =
 
 pub first-demand : FirstDemand
 unfolding numbersFrom open-rows open-writing-rows
-    recording registering removing formatting mendOf checkOf findName eventOf headerNumbers eventNumbers slotNumbers
+    recording registering removing formatting mendOf checkOf finished findName eventOf headerNumbers eventNumbers slotNumbers
 first-demand = record {
   orders = record {
     checking = λ s. refl;
@@ -242,4 +244,6 @@ first-demand = record {
   nonsense = nonsense;
   cut = cut;
   resumed = resumed;
+  in-pieces = in-pieces;
+  finishing = λ p. rw (checked-told (firstBroken (finishRows p)) (headerOf (p .header)) (p .body .slots .unused)) (refuses (finishRows p) _ some-value refl);
 }

@@ -10,6 +10,8 @@ use Rattle.events.specs.declared.Listed.the-variants as listed
 use Rattle.events.specs.declared.Reading.{Reading}
 use Rattle.mending.specs.Mending.{copyOf, mendOf, mendedTold, mendingRows}
 use Rattle.mending.specs.declared.Mended.the-variants as mended
+use Rattle.pieces.specs.Pieces.{finishRows, finished}
+use Rattle.pieces.specs.declared.Pieces.{Pieces}
 use Rattle.rows.specs.Lent.{leftIn}
 use Rattle.rows.specs.Rows.{Accepted, firstBroken}
 use Rattle.rows.specs.declared.Refusal.{Refusal}
@@ -46,6 +48,7 @@ use Rattle.demands.specs.NotRead.{DifferOnlyThere, SameAnswers, Whole}
 use Rattle.demands.specs.Offsets.{Offsets}
 use Rattle.demands.specs.OrderAndTime.{OrderAndTime}
 use Rattle.demands.specs.Patterns.{Patterns}
+use Rattle.demands.specs.Pieces.{InPieces}
 use Rattle.demands.specs.Refusals.{Orders, Refuses, RefusesAndKeeps, givenAt}
 use Rattle.demands.specs.Shown.{ReadingAccepted, linesOf, shownMicroseconds, shownTicks}
 use Rattle.demands.specs.Texts.{Texts}
@@ -99,6 +102,10 @@ pub record FirstDemand : Type 0 where
   pub cut : (s : List ℕ) (n : ℕ) → Accepted (headerRows (headerOf s) (length s)) → CutAt s n
   -- where 26 was given, fewer bytes appended leave the others missing; that many, whatever they are, and no 26 is given for that end any more
   pub resumed : (s : List ℕ) (k : ℕ) → SomeRefused s (givenAt 26 k) → Resumed s k
+  -- a dump that comes in pieces, however it is cut, gets the answer of the whole; and the finish of any state, also of one made by hand, is refused by the first
+  -- row that is broken by what the state shows (document 02, A4)
+  pub in-pieces : InPieces
+  pub finishing : (p : Pieces) → Refuses (finishRows p) (checkedTold (finished p))
 
 -- THE SECOND DEMAND
 

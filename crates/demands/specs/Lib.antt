@@ -19,6 +19,7 @@ pub mod Offsets
 pub mod OrderAndTime
 pub mod Page
 pub mod Patterns
+pub mod Pieces
 pub mod Refusals
 pub mod Shown
 pub mod Starred

@@ -1,5 +1,6 @@
 // The calls for C: each hands on to the library's call and gives its answer as a struct of numbers. include/lepsaino.h declares them.
 mod answers;
+mod feeders;
 mod readers;
 mod writers;
 
@@ -8,6 +9,9 @@ pub use answers::CheckAnswer;
 pub use answers::EventAnswer;
 pub use answers::MendAnswer;
 pub use answers::NameAnswer;
+pub use feeders::lepsaino_begin;
+pub use feeders::lepsaino_feed;
+pub use feeders::lepsaino_finish;
 pub use readers::lepsaino_check;
 pub use readers::lepsaino_event;
 pub use readers::lepsaino_find_name;

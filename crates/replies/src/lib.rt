@@ -4,6 +4,7 @@
 // Numbers in the file are little-endian. Past its end they read as 0, which is no title's length and no call's letter.
 mod arguments;
 mod buffers;
+mod fed;
 mod mends;
 mod readers;
 mod texts;
@@ -14,6 +15,7 @@ use buffers::print_digest;
 use console::print_front;
 use console::read_some;
 use console::word_at;
+use fed::print_fed;
 use libc::STDOUT_FILENO;
 use mends::print_mending;
 use readers::print_checked;
@@ -35,10 +37,11 @@ fn read_number(file: i32, size: usize) -> u32 {
     word_at(&bytes, 0)
 }
 
-// The check (c), an event (e), a name (n), a line (l), the listing (a), mending into a copy (m), all bytes (b), or the outcome of a writing call.
+// The check (c), the same in pieces (p), an event (e), a name (n), a line (l), the listing (a), mending into a copy (m), all bytes (b), or the outcome of a writing call.
 fn print_reply(buffer: &[u8], kind: u8, arguments: &[u8], outcome: Outcome) {
     match kind {
         b'c' => print_checked(buffer),
+        b'p' => print_fed(buffer, arguments),
         b'e' => print_shown(buffer, arguments),
         b'n' => print_found(buffer, arguments),
         b'l' => print_text(buffer, arguments, false),

@@ -51,13 +51,17 @@ fn print_sound(header: Header, events: usize) {
     print_space(events as u64);
 }
 
-// The check: a refusal, or what it found.
-pub(crate) fn print_checked(dump: &[u8]) {
-    match dump::check(dump) {
+// A refusal, or what the check found.
+pub(crate) fn print_verdict(checked: Checked) {
+    match checked {
         Checked::Refused(refusal) => print_refusal(refusal),
         Checked::Sound { header, events } => print_sound(header, events),
     }
     print_end();
+}
+
+pub(crate) fn print_checked(dump: &[u8]) {
+    print_verdict(dump::check(dump));
 }
 
 // A name's JSON text; no name has more than 64 bytes.

@@ -7,7 +7,7 @@ use native.Mathlib.Numerals.{add-one}
 use native.Mathlib.Omega.{arith}
 use borrow.Author.Tests.{le-leb, lt-leb, lt-ltb, le-ltb, ltb-false}
 use lib.Dec.{leb, ltb}
-use Rattle.rows.specs.Lowest.{lowest, count}
+use Rattle.rows.specs.Lowest.{lowest, lowestOn, count}
 
 -- a search that meets no hit ends at the count
 pub lowest-none : (t : ℕ → Bool) (n : ℕ) → ((k : ℕ) → k < n → t k ≡ false) → n ≡ lowest t n
@@ -60,6 +60,22 @@ pub lowest-hit : (t : ℕ → Bool) (n : ℕ) → lowest t n < n → t (lowest t
 unfolding lowest
 lowest-hit t zero found = absurd (omega arith)
 lowest-hit t (suc n) found = hit-at t n (lowest (λ k. t (suc k)) n) (t 0) refl (lowest-hit (λ k. t (suc k)) n) found
+
+-- a search of one index more
+pub lowest-on : (t : ℕ → Bool) (n : ℕ) → lowestOn (lowest t n) n (t n) ≡ lowest t (n + 1)
+lowest-on t n = by (decLt (lowest t n) n)
+  where
+    here : (b : Bool) → t n ≡ b → lowest t n ≡ n → cond b n (n + 1) ≡ lowest t (n + 1)
+    here true hit none = lowest-at t (n + 1) n (omega arith) (λ k below. lowest-before t n k (omega arith)) hit
+    here false miss none = lowest-none t (n + 1) (λ k below. on k below (ℕ-discrete k n))
+      where
+        on : (k : ℕ) → k < n + 1 → Dec (k ≡ n) → t k ≡ false
+        on k below (yes e) = rw e miss
+        on k below (no other) = lowest-before t n k (omega arith)
+
+    by : Dec (lowest t n < n) → lowestOn (lowest t n) n (t n) ≡ lowest t (n + 1)
+    by (yes ended) = rw (lt-ltb (lowest t n) n ended) (lowest-at t (n + 1) (lowest t n) (omega arith) (lowest-before t n) (lowest-hit t n ended))
+    by (no none) = rw (le-ltb (lowest t n) n (omega arith)) (here (t n) refl (omega (arith, lowest-le t n)))
 
 -- searches with tests that agree end at one place
 pub lowest-same : (t u : ℕ → Bool) (n : ℕ) → ((k : ℕ) → k < n → t k ≡ u k) → lowest t n ≡ lowest u n

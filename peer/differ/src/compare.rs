@@ -4,7 +4,7 @@ use crate::change::change;
 use crate::loan::Loan;
 use crate::tally::Tally;
 use crate::told::{shown, told};
-use crate::{expected, number, plain, wrapped};
+use crate::{expected, number, pieces, plain, states, wrapped};
 use peer::answers::{answer, Reply};
 use peer::call::Call;
 use peer::case::Case;
@@ -66,8 +66,9 @@ impl Comparison {
         near.clear();
         near.extend_from_slice(buffer);
         change(&mut self.chance, &mut near);
-        self.tally.changed += 1;
+        let inputs = self.tally.inputs;
         let result = self.input(&mut near, call);
+        self.tally.changed += self.tally.inputs - inputs;
         self.near = near;
         result
     }
@@ -81,10 +82,26 @@ impl Comparison {
         let reply = answer(buffer, call);
         self.tally.count(&self.before, call, &reply);
         let differing = self.differing(call, &reply);
-        match differing.or_else(|| self.fault(buffer, call, &reply)) {
+        let faulty = differing.or_else(|| self.fault(buffer, call, &reply));
+        match faulty.or_else(|| self.in_pieces(call, &reply)) {
             None => Ok(()),
             Some(difference) => Err(told(&self.before, call, &reply, &difference)),
         }
+    }
+
+    /// What differs where the dump that was checked comes in pieces; now and then a state made by hand goes on with it.
+    fn in_pieces(&mut self, call: &Call, reply: &Reply) -> Option<String> {
+        if *call != Call::Check {
+            return None;
+        }
+        self.tally.count_in_pieces(&self.before, reply);
+        let (chance, lent) = (&mut self.chance, &mut self.loan.buffer);
+        let mut compared = pieces::compare(chance, lent, &self.before, reply);
+        if compared.is_ok() && chance.one_in(16) {
+            self.tally.states += 1;
+            compared = states::compare(chance, lent, &self.before);
+        }
+        compared.err()
     }
 
     /// The library's answer, where it is not the peer's.

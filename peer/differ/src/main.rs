@@ -4,12 +4,15 @@
 mod arguments;
 mod change;
 mod compare;
+mod cuts;
 mod expected;
 mod lent;
 mod loan;
 mod mends;
 mod number;
+mod pieces;
 mod plain;
+mod states;
 mod tally;
 mod told;
 mod wrapped;

@@ -12,7 +12,7 @@ pub const REFUSALS: usize = 26;
 const CUT: usize = 26;
 const ENDS: [&str; 2] = ["registry end", "buffer end"];
 
-const KINDS: [&str; 11] = [
+const KINDS: [&str; 12] = [
     "check",
     "event",
     "find name",
@@ -23,13 +23,20 @@ const KINDS: [&str; 11] = [
     "register",
     "remove",
     "mend",
+    "check in pieces",
     "number",
 ];
+
+/// The kinds that are no call of a case.
+const IN_PIECES: usize = 10;
+const NUMBER: usize = 11;
 
 #[derive(Default)]
 pub struct Tally {
     pub inputs: u64,
     pub changed: u64,
+    /// States made by hand.
+    pub states: u64,
     accepted: [u64; KINDS.len()],
     refusals: [[u64; REFUSALS]; KINDS.len()],
     cut: [[u64; ENDS.len()]; KINDS.len()],
@@ -39,14 +46,22 @@ pub struct Tally {
 impl Tally {
     /// The buffer is the one that the call found.
     pub fn count(&mut self, buffer: &[u8], call: &Call, reply: &Reply) {
+        self.count_kind(buffer, kind(call), reply);
+        if let Reply::Mend { result, .. } = reply {
+            self.mends.count(result);
+        }
+    }
+
+    /// The reply is that to the whole check.
+    pub fn count_in_pieces(&mut self, buffer: &[u8], reply: &Reply) {
+        self.count_kind(buffer, IN_PIECES, reply);
+    }
+
+    fn count_kind(&mut self, buffer: &[u8], kind: usize, reply: &Reply) {
         self.inputs += 1;
-        let kind = kind(call);
         match reply.refusal() {
             Some(refusal) => self.count_refusal(buffer, kind, refusal.number as usize),
             None => self.accepted[kind] += 1,
-        }
-        if let Reply::Mend { result, .. } = reply {
-            self.mends.count(result);
         }
     }
 
@@ -68,7 +83,7 @@ impl Tally {
     /// A number has no refusal.
     pub fn count_number(&mut self) {
         self.inputs += 1;
-        self.accepted[KINDS.len() - 1] += 1;
+        self.accepted[NUMBER] += 1;
     }
 
     /// What a kind of call can give and never gave.
@@ -84,6 +99,9 @@ impl Tally {
                 }
             }
             missing.extend(self.ends_missing(kind));
+        }
+        if self.states == 0 {
+            missing.push("a state made by hand".to_string());
         }
         missing.extend(self.mends.missing());
         missing
@@ -120,7 +138,7 @@ fn has_registry(dump: &[u8]) -> bool {
 /// Whether the order of checks for a kind of call has the number.
 fn can_give(kind: usize, number: usize) -> bool {
     match KINDS[kind] {
-        "check" => matches!(number, 1..=13 | CUT),
+        "check" | "check in pieces" => matches!(number, 1..=13 | CUT),
         "event" => matches!(number, 1..=13 | 25 | CUT),
         "find name" => matches!(number, 1..=11 | CUT),
         "line" => matches!(number, 1..=16 | 25 | CUT),
@@ -167,6 +185,7 @@ impl fmt::Display for Tally {
         for (end, name) in ENDS.iter().enumerate() {
             writeln!(text, "{:>10} of {} at the {}", self.cut_at(end), CUT, name)?;
         }
+        writeln!(text, "{:>10} states made by hand", self.states)?;
         write!(text, "{}", self.mends)
     }
 }

@@ -15,7 +15,7 @@ type Written = Result<usize, lepsaino::Refusal>;
 pub fn answer(chance: &mut Chance, loan: &mut Loan, call: &Call) -> Option<Reply> {
     let buffer = loan.buffer.bytes_mut();
     Some(match call {
-        Call::Check => Reply::Check(lepsaino::check(buffer).map(summary).map_err(refusal)),
+        Call::Check => checked(lepsaino::check(buffer)),
         Call::Event { position } => {
             let given = lepsaino::event(buffer, *position).map_err(refusal);
             Reply::Event(given.map(|given| event(buffer, &given)))
@@ -61,6 +61,11 @@ fn write(chance: &mut Chance, loan: &mut Loan, call: &Call) -> Option<Written> {
         Call::Remove { pointer } => lepsaino::remove(buffer, *pointer),
         _ => return None,
     })
+}
+
+/// The check gives the same whether the dump came whole or in pieces.
+pub fn checked(given: Result<lepsaino::Checked, lepsaino::Refusal>) -> Reply {
+    Reply::Check(given.map(summary).map_err(refusal))
 }
 
 fn refusal(refusal: lepsaino::Refusal) -> Refusal {

@@ -6,10 +6,12 @@
 pub mod raw;
 
 mod answers;
+mod pieces;
 mod readers;
 mod writers;
 
 pub use answers::{Checked, Context, Event, Mended, Refusal};
+pub use pieces::Pieces;
 pub use raw::{Format, Object, Reading, Slot};
 pub use readers::{check, event, find_name, line, listing, mend, number};
 pub use writers::{format, record, register, remove};

@@ -114,8 +114,33 @@ pub struct Object {
     pub reserved_two: u8,
 }
 
+/// The state of a check in pieces, which is only handed on.
+#[repr(C)]
+#[derive(Clone, Copy, Debug, PartialEq, Eq)]
+pub struct Pieces {
+    pub header: [u8; 48],
+    pub entries: usize,
+    pub entry_size: usize,
+    pub start: usize,
+    pub slots: usize,
+    pub slot_size: usize,
+    pub current: usize,
+    pub front: [u8; 12],
+    pub came: usize,
+    pub entries_passed: usize,
+    pub bad_type: usize,
+    pub slots_passed: usize,
+    pub unused: usize,
+    pub behind: usize,
+    pub no_id: usize,
+    pub total: usize,
+}
+
 extern "C" {
     pub fn lepsaino_check(dump: *const u8, dump_length: usize) -> Checked;
+    pub fn lepsaino_begin() -> Pieces;
+    pub fn lepsaino_feed(state: Pieces, piece: *const u8, piece_length: usize) -> Pieces;
+    pub fn lepsaino_finish(state: Pieces) -> Checked;
     pub fn lepsaino_event(dump: *const u8, dump_length: usize, position: usize) -> Event;
     pub fn lepsaino_find_name(dump: *const u8, dump_length: usize, pointer: u32) -> Name;
     pub fn lepsaino_line(

@@ -88,11 +88,33 @@ static void arguments(void)
     FIELD(object, reserved_two);
 }
 
+static void states(void)
+{
+    SIZE(pieces);
+    FIELD(pieces, header);
+    FIELD(pieces, entries);
+    FIELD(pieces, entry_size);
+    FIELD(pieces, start);
+    FIELD(pieces, slots);
+    FIELD(pieces, slot_size);
+    FIELD(pieces, current);
+    FIELD(pieces, front);
+    FIELD(pieces, came);
+    FIELD(pieces, entries_passed);
+    FIELD(pieces, bad_type);
+    FIELD(pieces, slots_passed);
+    FIELD(pieces, unused);
+    FIELD(pieces, behind);
+    FIELD(pieces, no_id);
+    FIELD(pieces, total);
+}
+
 int main(void)
 {
     answers();
     events();
     arguments();
+    states();
     printf("contexts %d %d %d\n", LEPSAINO_INIT, LEPSAINO_ISR, LEPSAINO_THREAD);
     return 0;
 }

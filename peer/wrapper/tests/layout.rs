@@ -1,14 +1,15 @@
 //! The structs have the sizes and offsets that a C compiler gives those of the header.
 
 use lepsaino::raw::*;
-use std::mem::{size_of, size_of_val};
+use std::mem::{size_of, size_of_val, zeroed};
 use std::path::Path;
 use std::process::Command;
 
 /// Lines as layout.c prints them; a field left out does not compile.
 macro_rules! layout {
     ($name:literal, $kind:ident, $($field:ident)*) => {{
-        let value = $kind::default();
+        // SAFETY: every field is a number or bytes, so that zeros are a value.
+        let value: $kind = unsafe { zeroed() };
         let $kind { $($field: _),* } = value;
         let mut text = format!("{} {}\n", $name, size_of::<$kind>());
         $(
@@ -33,6 +34,8 @@ fn from_rust() -> String {
         layout!("format", Format, big base mask name_size entries),
         layout!("object", Object, object_type pointer parameter_one parameter_two
             reserved_one reserved_two),
+        layout!("pieces", Pieces, header entries entry_size start slots slot_size current front
+            came entries_passed bad_type slots_passed unused behind no_id total),
         format!("contexts {} {} {}\n", INIT, ISR, THREAD),
     ]
     .concat()
@@ -58,4 +61,9 @@ fn from_c() -> String {
 #[test]
 fn structs_lie_as_in_c() {
     assert_eq!(from_rust(), from_c());
+}
+
+#[test]
+fn a_state_has_the_size_that_the_header_says() {
+    assert_eq!(size_of::<Pieces>(), 176);
 }

@@ -1,0 +1,3 @@
+pub mod Fed
+pub mod Filled
+pub mod States

@@ -1,0 +1,4 @@
+pub mod Body
+pub mod Fed
+pub mod Pieces
+pub mod Whole
