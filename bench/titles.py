@@ -49,6 +49,7 @@ COMPETITORS = {
     "peer": "the peer, in Rust",
     "plain": "Rust by hand",
     "plain-call": "Rust by hand, not inlined",
+    "plain-value": "Rust by hand, not inlined, its state by value",
     "sum": "adding up the bytes",
     "copy": "copying the bytes",
     "node-template": "node, template literals",

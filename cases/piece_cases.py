@@ -69,7 +69,7 @@ def cut_short():
 
 
 def turns():
-    """Whether the slot at current is used is known after, with or before the slot at fault."""
+    """Whether the slot at current is used is known before the slot at fault has come, or only after it."""
     everywhere = once(range(120, 249)) + [(0, step) for step in (1, 5, 31, 32, 33)]
     for used, current, expected in (
             ([0, 1, 2, 3], 2, 4), ([], 0, 0), ([0, 1, 2], 3, 3), ([0, 1, 3], 3, "12 2"), ([1, 2, 3], 3, "12 0"), ([0, 1], 3, "12 2"),
@@ -81,7 +81,7 @@ def turns():
 def refused():
     for expected, name, dump in broken():
         length = len(dump.bytes("<"))
-        case(f"refused for its {name}", expected, dump, [(0, 1), (0, 13), (length // 2, REST), (length, REST)])
+        case(f"refused: {name}", expected, dump, [(0, 1), (0, 13), (length // 2, REST), (length, REST)])
     case("two bad types give the lower", "11 1", bad_type(1, 2), once(range(48, 121)))
     case("two ids 0 give the lower", "13 1", no_id(1, 2), once(range(120, 249)))
 

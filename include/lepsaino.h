@@ -134,8 +134,9 @@ struct lepsaino_object {
 };
 
 /*
- * The state of a check in pieces: 176 bytes, of which 60 can hold bytes of the dump, and the rest are numbers. It is the caller's, who begins with
- * lepsaino_begin and otherwise only hands it on; the fields are here so that a C compiler knows its size. A state may be copied, kept and fed in two ways.
+ * The state of a check in pieces: 176 bytes, of which 60 can hold bytes of the dump, and the rest are numbers and four bytes of padding. It is the caller's, who
+ * begins with lepsaino_begin and otherwise only hands it on; the fields are here so that a C compiler knows its size. A state may be copied, kept and fed in two
+ * ways.
  */
 struct lepsaino_pieces {
     uint8_t header[48];  /* the header's bytes */
@@ -159,7 +160,7 @@ struct lepsaino_pieces {
 /* Checks a dump: 1 to 13. */
 struct lepsaino_checked lepsaino_check(const uint8_t *dump, size_t dump_length);
 
-/* Checks a dump that comes in pieces: the state before any byte. */
+/* Begins the check of a dump in pieces: the state before any byte. */
 struct lepsaino_pieces lepsaino_begin(void);
 
 /* The state after one piece more, of any length, cut anywhere. Nothing is refused before the finish. */

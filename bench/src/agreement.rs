@@ -1,7 +1,7 @@
 //! The baselines in Rust do all that documents 01 and 02 ask: they give what the peer gives, refusals too.
 
 use crate::competitors::refused_by_peer;
-use crate::feeders::{by_hand, by_library};
+use crate::feeders::{by_hand, by_hand_by_value, by_library};
 use crate::files::agreed_mending;
 use crate::plain::check::check;
 use crate::plain::find::find_name;
@@ -41,6 +41,7 @@ fn compare_pieces(dump: &[u8], chance: &mut Chance) {
     let expected = expected.map_err(refused_by_peer);
     let pieces = cut(dump, chance);
     assert_eq!(by_hand(pieces.iter().copied()), expected);
+    assert_eq!(by_hand_by_value(pieces.iter().copied()), expected);
     assert_eq!(by_library(pieces.iter().copied()), expected);
 }
 

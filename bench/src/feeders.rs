@@ -7,10 +7,13 @@ use crate::plain::{called, Refusal};
 /// Checks the dump in pieces of that length and gives the number of events.
 pub type Feeder = fn(&[u8], usize) -> Result<usize, Refusal>;
 
-pub const FEEDERS: [(&str, Feeder); 3] = [
+pub const FEEDERS: [(&str, Feeder); 4] = [
     ("lepsaino", |dump, length| by_library(dump.chunks(length))),
     ("lepsaino-whole", |dump, _| CHECK(dump)),
     ("plain-call", |dump, length| by_hand(dump.chunks(length))),
+    ("plain-value", |dump, length| {
+        by_hand_by_value(dump.chunks(length))
+    }),
 ];
 
 /// The state is handed over and back.
@@ -20,6 +23,11 @@ pub fn by_library<'a>(pieces: impl Iterator<Item = &'a [u8]>) -> Result<usize, R
         Ok(checked) => Ok(checked.events),
         Err(refusal) => Err(refused(refusal)),
     }
+}
+
+/// The same by hand.
+pub fn by_hand_by_value<'a>(pieces: impl Iterator<Item = &'a [u8]>) -> Result<usize, Refusal> {
+    called::finish(&pieces.fold(Pieces::begin(), called::feed_by_value))
 }
 
 /// The state is lent.

@@ -14,6 +14,13 @@ pub fn feed(state: &mut Pieces, piece: &[u8]) {
     state.feed(piece)
 }
 
+/// The state is handed over and back, as the library's is.
+#[inline(never)]
+pub fn feed_by_value(mut state: Pieces, piece: &[u8]) -> Pieces {
+    state.feed(piece);
+    state
+}
+
 #[inline(never)]
 pub fn finish(state: &Pieces) -> Result<usize, Refusal> {
     state.finish()

@@ -49,7 +49,7 @@ holds-none d = record {
   body = λ long. absurd (omega arith);
 }
 
--- with its first 36 bytes the header is there
+-- where its bytes are the same, of which the first 36 are read, so is the header
 header-is : (d header : List ℕ) → ((k : ℕ) → k < headerSize → getD header k 0 ≡ getD d k 0) → headerOf header ≡ headerOf d
 header-is d header same = same-header d header (λ k below aside. rw zero-add (same k (omega arith)))
 

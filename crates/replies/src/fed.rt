@@ -6,7 +6,7 @@ use rows::least;
 ghost use Prim.Native.Nat.{_≤_};
 ghost use lib.ListN.{length};
 
-// One piece of so many bytes, an empty one, and then pieces of another length, which is at least 1.
+// One piece of so many bytes, an empty one, and then pieces of step + 1 bytes.
 fn fed_in(dump: &[u8], first: usize, step: usize) -> Pieces
     requires { ⌜ first ≤ length (now dump) ⌝ }
 {

@@ -89,7 +89,7 @@ impl Comparison {
         }
     }
 
-    /// What differs where the dump that was checked comes in pieces; now and then a state made by hand goes on with it.
+    /// What differs where the dump that was checked comes in pieces; now and then a state with changed fields goes on with it.
     fn in_pieces(&mut self, call: &Call, reply: &Reply) -> Option<String> {
         if *call != Call::Check {
             return None;

@@ -14,8 +14,8 @@ const MOST_BYTES: usize = 1024;
 pub fn compare(chance: &mut Chance, lent: &mut Lent, dump: &[u8]) -> Result<(), String> {
     let dump = &dump[..dump.len().min(MOST_BYTES)];
     let (front, rest) = dump.split_at(chance.below(dump.len() + 1));
-    let sound = fed(chance, lent, begun(), &Cut::whole(front))?;
-    let state = changed(chance, sound);
+    let reached = fed(chance, lent, begun(), &Cut::whole(front))?;
+    let state = changed(chance, reached);
     let cut = Cut::new(chance, rest);
     let one = fed(chance, lent, state, &Cut::whole(rest))?;
     let several = fed(chance, lent, state, &cut)?;

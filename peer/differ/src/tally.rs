@@ -35,7 +35,7 @@ const NUMBER: usize = 11;
 pub struct Tally {
     pub inputs: u64,
     pub changed: u64,
-    /// States made by hand.
+    /// States with changed fields.
     pub states: u64,
     accepted: [u64; KINDS.len()],
     refusals: [[u64; REFUSALS]; KINDS.len()],
@@ -101,7 +101,7 @@ impl Tally {
             missing.extend(self.ends_missing(kind));
         }
         if self.states == 0 {
-            missing.push("a state made by hand".to_string());
+            missing.push("a state with changed fields".to_string());
         }
         missing.extend(self.mends.missing());
         missing
@@ -185,7 +185,7 @@ impl fmt::Display for Tally {
         for (end, name) in ENDS.iter().enumerate() {
             writeln!(text, "{:>10} of {} at the {}", self.cut_at(end), CUT, name)?;
         }
-        writeln!(text, "{:>10} states made by hand", self.states)?;
+        writeln!(text, "{:>10} states with changed fields", self.states)?;
         write!(text, "{}", self.mends)
     }
 }
