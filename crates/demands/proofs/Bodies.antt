@@ -51,10 +51,19 @@ isUsedBehind o d g i = isUsedSlot o d g i && ltb (g .current) i
 abbrev pub hasNoId : Order → List ℕ → Geometry → ℕ → Bool
 hasNoId o d g i = isUsedSlot o d g i && eqb (eventIdAt o d (slotPlace g i)) 0
 
+-- all that is read of a part lies among so many bytes, its first: of an entry up to its pointer's end, of a slot up to its id's
+abbrev readSize : Bool → ℕ
+readSize true = 8
+readSize false = 12
+
+read-held : (entry : Bool) → readSize entry ≤ frontSize
+read-held true = omega arith
+read-held false = omega arith
+
 -- what those that came whole have shown
 pub record Shown (o : Order) (d : List ℕ) (g : Geometry) (e : Entries) (s : Slots) : Type 0 where
-  pub entry-long : frontSize ≤ g .«entry_size»
-  pub slot-long : frontSize ≤ g .«slot_size»
+  pub entry-long : readSize true ≤ g .«entry_size»
+  pub slot-long : readSize false ≤ g .«slot_size»
   pub entries-most : e .passed ≤ g .entries
   pub slots-most : s .passed ≤ g .slots
   pub in-order : ltb (e .passed) (g .entries) ≡ true → s .passed ≡ 0
@@ -86,10 +95,11 @@ pub record After (o : Order) (d : List ℕ) (b : Body) (n : ℕ) : Type 0 where
   pub under-way : isDone b ≡ false → (partPlace b + b .came ≡ n) × (b .came < partSize b)
   pub held : isDone b ≡ false → (k : ℕ) → k < b .came → k < frontSize → getD (b .front) k 0 ≡ getD d (partPlace b + k) 0
 
--- a part is at least as long as what is held of it
-part-long : (g : Geometry) → frontSize ≤ g .«entry_size» → frontSize ≤ g .«slot_size» → (entry : Bool) → frontSize ≤ cond entry (g .«entry_size») (g .«slot_size»)
-part-long g long-entry long-slot true = long-entry
-part-long g long-entry long-slot false = long-slot
+-- a part is at least as long as what is read of it
+part-long : (g : Geometry) → readSize true ≤ g .«entry_size» → readSize false ≤ g .«slot_size» → (entry : Bool)
+    → (1 ≤ readSize entry) × (readSize entry ≤ cond entry (g .«entry_size») (g .«slot_size»))
+part-long g long-entry long-slot true = (omega arith, long-entry)
+part-long g long-entry long-slot false = (omega arith, long-slot)
 
 -- behind a header, before any byte
 pub none-after : (o : Order) (d header : List ℕ) → After o d (bodyBegun header) headerSize
@@ -116,7 +126,7 @@ module _ (o : Order) (d : List ℕ) (b : Body) (n : ℕ) (after : After o d b n)
   abbrev shown : Shown o d (b .geometry) (b .entries) (b .slots)
   shown = after .shown
 
-  long : (entry : Bool) → frontSize ≤ cond entry (b .geometry .«entry_size») (b .geometry .«slot_size»)
+  long : (entry : Bool) → (1 ≤ readSize entry) × (readSize entry ≤ cond entry (b .geometry .«entry_size») (b .geometry .«slot_size»))
   long = part-long (b .geometry) (shown .entry-long) (shown .slot-long)
 
   nothing-more : isDone b ≡ true → After o d b (n + 1)
@@ -155,10 +165,10 @@ module _ (o : Order) (d : List ℕ) (b : Body) (n : ℕ) (after : After o d b n)
       part-ends : partPlace b + partSize b ≡ n + 1
       part-ends = omega (arith, after .under-way more .0)
 
-      front-held : (place at k : ℕ) → partPlace b ≡ place → at + k < frontSize → getD front (0 + at + k) 0 ≡ getD d (place + at + k) 0
+      front-held : (place at k : ℕ) → partPlace b ≡ place → at + k < readSize (inRegistry b) → getD front (0 + at + k) 0 ≡ getD d (place + at + k) 0
       front-held place at k here short =
           ap (λ (i : ℕ). getD front i 0) {x = 0 + at + k} {y = at + k} (omega arith)
-          ∙ held-on (at + k) (omega (arith, long (inRegistry b))) short
+          ∙ held-on (at + k) (omega (arith, long (inRegistry b))) (omega (arith, read-held (inRegistry b)))
           ∙ ap (λ (i : ℕ). getD d i 0) {x = partPlace b + (at + k)} {y = place + at + k} (omega arith)
 
       -- an entry
@@ -169,7 +179,7 @@ module _ (o : Order) (d : List ℕ) (b : Body) (n : ℕ) (after : After o d b n)
         same-entry : isWantedAt BadType Little front 0 ≡ isBadEntry d (b .geometry) (b .entries .passed)
         same-entry =
             alike-wanted BadType Little d (entryPlace (b .geometry) (b .entries .passed)) front 0
-            (λ k below aside. rw (add-zero (entryPlace (b .geometry) (b .entries .passed))) at (front-held (entryPlace (b .geometry) (b .entries .passed)) 0 k (entry-here o d b shown registry) (omega arith)))
+            (λ k below aside. rw (add-zero (entryPlace (b .geometry) (b .entries .passed))) at (front-held (entryPlace (b .geometry) (b .entries .passed)) 0 k (entry-here o d b shown registry) (rw registry (omega arith))))
 
         entry-ends : partPlace entryAfter ≡ n + 1
         unfolding entryPassed
@@ -208,9 +218,9 @@ module _ (o : Order) (d : List ℕ) (b : Body) (n : ℕ) (after : After o d b n)
         abbrev place : ℕ
         place = slotPlace (b .geometry) (b .slots .passed)
 
-        same-word : (at : ℕ) → at + 4 ≤ frontSize → eqb (wordAt Little front (0 + at)) 0 ≡ eqb (wordAt o d (place + at)) 0
+        same-word : (at : ℕ) → at + 4 ≤ readSize false → eqb (wordAt Little front (0 + at)) 0 ≡ eqb (wordAt o d (place + at)) 0
         same-word at within =
-            ap (λ (word : ℕ). eqb word 0) (same-number Little 4 front d (0 + at) (place + at) (λ k below. front-held place at k (slot-here o d b shown slots) (omega arith)))
+            ap (λ (word : ℕ). eqb word 0) (same-number Little 4 front d (0 + at) (place + at) (λ k below. front-held place at k (slot-here o d b shown slots) (rw slots (omega arith))))
             ∙ zero-word o d (place + at)
 
         same-used : isUsedAt Little front 0 ≡ isUsedAt o d place
