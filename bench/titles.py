@@ -5,6 +5,7 @@ JOBS = {
     "listing-big": "listing, 2,046 events, no entries, big-endian",
     "listing-exact": "listing, 2,046 events, no entries, no room to spare",
     "listing-names": "listing, 1,446 events, 400 names",
+    "listing-gone": "listing, 1,446 events, 400 names of removed threads",
     "check": "checking the full dump",
     "check-big": "checking the full dump, big-endian",
     "check-entries": "checking 1,109 events, 1,500 entries",

@@ -6,6 +6,8 @@ buffer's digest, then the reply to each call.
 import struct
 from functools import lru_cache
 
+from texts import CONTEXTS, name
+
 # What the programs have room for; the room of a call that writes is by its letter.
 MOST_BYTES, MOST_ARGUMENTS, MOST_IN_HEX, MOST_CALLS = 65537, 1024, 1024, 1000
 MOST_ROOM = {"l": 1599000, "a": 1599000, "m": 65900}
@@ -34,6 +36,21 @@ def digest(content):
     for b in content:
         total = total % 36028797018963913 * 511 + b
     return total
+
+
+def called(found):
+    """A name's text and its kind, or that there is none."""
+    return name(None) if found is None else f"{name(found.bytes)} {'gone' if found.gone else 'live'}"
+
+
+def found_name(found):
+    """The reply to finding a name: with its length, and its place in the dump where there is one."""
+    return f"{called(found)} 0" if found is None else f"{called(found)} {len(found.bytes)} {found.place}"
+
+
+def shown_event(event):
+    """The reply to asking for one event by its position."""
+    return " ".join([*map(str, event.words), str(event.ticks), CONTEXTS[event.by], called(event.name)])
 
 
 def written(text):

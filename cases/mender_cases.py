@@ -3,16 +3,18 @@
 The answers and the copies come from mender.py, which is written from documents 01 and 02 and not from our
 code. A named case also says by hand the refusal, or the six counts and the whole copy, field by field; the
 two must agree, or nothing is written. The seeded cases have mender.py's word alone. Every copy must pass the
-check in dumps.py, and a dump that passes it must be kept.
+check in dumps.py, and a dump that passes it must be kept. Of some copies it is also asked which names they hold.
 """
+import json
 import sys
 from collections import namedtuple
 
 from dumps import (ALARM, INIT, ISR, PUMP, VALVE, WORDS, Dump, Refused, answer, broken, changed, damage, entry, shifted,
                    slot)
-from form import MOST_IN_HEX, MOST_ROOM, Cases, mended
+from form import MOST_IN_HEX, MOST_ROOM, Cases, found_name, mended, written
 from made import Chance
 from mender import mend
+from reader import Reading, find_name, listing
 
 # Where the slots start behind the three entries that most cases have; four slots end at offset 248.
 START = 0x20000000 + 120
@@ -24,7 +26,7 @@ NOTHING = "0 0 0 0 0 0"
 PLENTY = MOST_ROOM["m"]
 
 # A step is a call and its answer by hand, or none where the case is seeded. Of a call that mends it is the refusal,
-# or the counts and the dump that the copy must be.
+# or the counts and the dump that the copy must be; of a listing the names in its lines, each with whether it is gone.
 Case = namedtuple("Case", "name dump steps")
 CASES = []
 
@@ -40,7 +42,11 @@ def mending(room):
     return "m", (room,)
 
 
-CHECKED, ALL_BYTES = ("c", ()), ("b", ())
+def naming(pointer):
+    return "n", (pointer,)
+
+
+CHECKED, ALL_BYTES, LISTED = ("c", ()), ("b", ()), ("a", (Reading(1000000, 0, 0), 4096))
 
 
 def mends(name, dump, counts, copy):
@@ -553,6 +559,31 @@ def unchanged():
          (ALL_BYTES, shifted("buffer_end", 1)), (CHECKED, "9 0"))
 
 
+def names():
+    """An entry that is freed for its type names nobody; a gone thread's name is found in the copy as in the dump."""
+    used = slot(PUMP), slot(ISR, PUMP), slot(INIT, PUMP)
+    pump, gone = entry(PUMP, b"pump"), entry(PUMP, b"old", flag=1)
+    odd, freed = entry(PUMP, b"odd", kind=15), entry(PUMP, b"odd", 1, 15)
+    zeros, spent = entry(0, b"zeros", 255, 0), entry(0, b"zeros", 1, 0)
+    rows = {
+        "odd": ([odd], [freed], "11 0", 1, "null 0", None, False),
+        "odd, gone": ([odd, gone], [freed, gone], "11 0", 1, '"old" gone 3 88', "old", True),
+        "gone, odd": ([gone, odd], [gone, freed], "11 1", 1, '"old" gone 3 64', "old", True),
+        "odd, gone, in use": ([odd, gone, pump], [freed, gone, pump], "11 0", 1, '"pump" live 4 112', "pump", False),
+        "zeros, gone": ([zeros, gone, zeros], [spent, gone, spent], "11 0", 2, '"old" gone 3 88', "old", True),
+        "gone twice": ([entry(PUMP, b"", 1), gone], [entry(PUMP, b"", 1), gone], "12 0", 0, '"" gone 0 64', "", True),
+        "in use, gone": ([pump, gone], [pump, gone], "12 0", 0, '"pump" live 4 64', "pump", False),
+    }
+    for title, (entries, after, refusal, types, found, called, kind) in rows.items():
+        # The slots are packed too: the used/unused rule fails at slot 0.
+        dump, copy = ring(0, *used, at=1, entries=entries), ring(*used, 0, at=3, entries=after)
+        before = found if refusal == "12 0" else refusal
+        case(f"names, {title}", dump, (naming(PUMP), before), (LISTED, refusal),
+             (mending(PLENTY), (f"0 0 {types} 0 1 3", copy)), (naming(PUMP), before))
+        case(f"names, {title}, the copy", copy, (naming(PUMP), found), (naming(0), "null 0"), (naming(VALVE), "null 0"),
+             (LISTED, [(called, kind), (called, kind), (None, False)]), (mending(PLENTY), (NOTHING, copy)))
+
+
 # Seeded cases.
 
 def seeded_slot(chance, used):
@@ -616,10 +647,17 @@ def passes(dump):
 
 def reply_to(letter, given, dump):
     """A call's answer, and the reply that the program must print."""
-    if letter != "m":
+    if letter in "bc":
         said = {"b": bytes.hex, "c": answer}[letter](dump)
         return said, said
     try:
+        if letter == "n":
+            found = found_name(find_name(dump, *given))
+            return found, found
+        if letter == "a":
+            text = listing(dump, *given)
+            lines = map(json.loads, text.splitlines())
+            return [(line["name"], line["gone"]) for line in lines], written(text)
         copy, counts = mend(dump, *given)
     except Refused as refusal:
         return str(refusal), f"{refusal} 0"
@@ -648,7 +686,7 @@ def add(made, order, title, cases):
 
 
 GROUPS = (sound, missing, currents, types, ids, gaps, several, kept, tops, name_sizes, lengths, refusals, rooms,
-          unchanged)
+          unchanged, names)
 cases = Cases()
 for group in GROUPS:
     group()

@@ -1,6 +1,6 @@
 """The questions that the program `cases` puts to the reader, and what it must print.
 
-The answers come from reader.py, which is written from document 01 and not from our code. A named case
+The answers come from reader.py, which is written from the documents and not from our code. A named case
 also says by hand what must come, whole or in part, and the two must agree, or nothing is written. The
 seeded cases have reader.py's word alone. Every line is read by Python's JSON parser, and must give the
 values that it was made of.
@@ -11,10 +11,10 @@ from collections import namedtuple
 
 from dumps import (ALARM, INIT, ISR, OF_THE_HEADER, PUMP, VALVE, WORDS, Dump, Refused, bad_type, broken, changed, damage,
                    entry, no_id, slot)
-from form import Cases, written
+from form import Cases, found_name, shown_event, written
 from made import Chance
 from reader import Reading, find_name, listing, one_event, one_line, read_events, read_fields
-from texts import CONTEXTS, DOCUMENT, LIMIT, line, name, read_back
+from texts import DOCUMENT, LIMIT, line, read_back
 
 TWO_40 = 1 << 40
 LAST = (1 << 64) - 1
@@ -42,7 +42,7 @@ def short(length, lines):
 
 def plenty(length, lines):
     """So much that no listing of so many lines needs it."""
-    return 733 * lines
+    return 800 * lines
 
 
 def of(room):
@@ -85,7 +85,24 @@ def each(title, dump, reading=PLAIN, **by_hand):
             an_event(f"{title}, event {position}", dump, position, shown)
 
 
+def told(found, count):
+    """What so many lines say of a name, by the reply to finding it."""
+    if found == "null 0":
+        return dict(name=[None] * count, gone=[False] * count)
+    text, kind, _, _ = found.rsplit(" ", 3)
+    return dict(name=[json.loads(text)] * count, gone=[kind == "gone"] * count)
+
+
 # What dumps hold.
+
+def removed(pointer, called, kind=1):
+    """A free entry with its old contents."""
+    return entry(pointer, called, 1, kind)
+
+
+# An entry as formatting leaves it.
+FRESH = removed(0, b"", 0)
+
 
 def holding(slots, *entries, current=None, size=8, mask=0xFFFF, base=0x20000000):
     """A dump of these; with no current given, the ring has not gone round and an unused slot follows."""
@@ -109,8 +126,8 @@ def numbered(used, slots, current):
 # The cases.
 
 def whole_case():
-    dump = holding([slot(0x20002000, 16, 6, 20, (7, 0, 0, 0)), slot(PUMP, 16, 5, 65500),
-                    slot(ISR, PUMP, 1025, 20, (0, 0, 0, 0))], entry(PUMP, b"pump"), current=1)
+    slots = [slot(0x20002000, 16, 6, 20, (7, 0, 0, 0)), slot(PUMP, 16, 5, 65500), slot(ISR, PUMP, 1025, 20, (0, 0, 0, 0))]
+    dump, gone = (holding(slots, entry(PUMP, b"pump", flag), current=1) for flag in (0, 1))
     assert dump.current == 0x20000000 + 104
     reading = Reading(rate=3000000, unit=8192, serial=0)
     lines = DOCUMENT.splitlines(keepends=True)
@@ -119,12 +136,17 @@ def whole_case():
         for position in range(3):
             a_line(f"whole case, line {position}, {title}", dump, position, written(lines[position]), reading, room)
     a_line("whole case, line 3", dump, 3, "25 0 0", reading)
-    an_event("whole case, event 0", dump, 0, '536875008 16 5 65500 1 2 3 4 0 thread "pump"')
-    an_event("whole case, event 1", dump, 1, '4294967295 536875008 1025 20 0 0 0 0 56 isr "pump"')
+    an_event("whole case, event 0", dump, 0, '536875008 16 5 65500 1 2 3 4 0 thread "pump" live')
+    an_event("whole case, event 1", dump, 1, '4294967295 536875008 1025 20 0 0 0 0 56 isr "pump" live')
     an_event("whole case, event 2", dump, 2, "536879104 16 6 20 7 0 0 0 56 thread null")
     an_event("whole case, event 3", dump, 3, "25 0")
-    a_name("whole case, name of the thread", dump, PUMP, '"pump" 4 64')
+    a_name("whole case, name of the thread", dump, PUMP, '"pump" live 4 64')
     a_name("whole case, name of another", dump, 0x20002000, "null 0")
+    a_listing("whole case, gone", gone, written(DOCUMENT.replace('"pump","gone":false', '"pump","gone":true')), reading)
+    an_event("whole case, gone, event 0", gone, 0, '536875008 16 5 65500 1 2 3 4 0 thread "pump" gone')
+    an_event("whole case, gone, event 1", gone, 1, '4294967295 536875008 1025 20 0 0 0 0 56 isr "pump" gone')
+    an_event("whole case, gone, event 2", gone, 2, "536879104 16 6 20 7 0 0 0 56 thread null")
+    a_name("whole case, gone, name of the thread", gone, PUMP, '"pump" gone 4 64')
 
 
 def rings():
@@ -158,17 +180,25 @@ def full():
 
 
 def contexts():
-    entries = [entry(PUMP, b"pump"), entry(INIT, b"init"), entry(ISR, b"isr"), entry(0, b"zero")]
-    said = dict(by=["init", "isr", "thread"], name=[None, "pump", "pump"])
-    each("contexts", holding([slot(INIT), slot(ISR, PUMP), slot(PUMP)], *entries), **said)
-    fields = [slot(ISR, field) for field in (INIT, ISR, 0, PUMP, 1)]
-    each("isr by the field", holding(fields, *entries), by=["isr"] * 5, name=["init", "isr", "zero", "pump", None])
-    inits = [slot(INIT, field) for field in (INIT, ISR, 0, PUMP)]
-    each("init has no name", holding(inits, *entries), by=["init"] * 4, name=[None] * 4)
-    near = [slot(pointer, PUMP) for pointer in (0xF0F0F0F1, 0xF0F0F0EF, 0xFFFFFFFE, 0x0F0F0F0F, 1)]
-    each("close to init and isr", holding(near, *entries), by=["thread"] * 5, name=[None] * 5)
-    each("thread whose field is another's", holding([slot(VALVE, PUMP), slot(PUMP, VALVE)], *entries),
-         name=[None, "pump"])
+    for title, flag, gone in (("", 0, False), (", gone", 1, True)):
+        entries = [entry(PUMP, b"pump", flag), entry(INIT, b"init", flag), entry(ISR, b"isr", flag), entry(0, b"zero", flag)]
+        each(f"contexts{title}", holding([slot(INIT), slot(ISR, PUMP), slot(PUMP)], *entries),
+             by=["init", "isr", "thread"], name=[None, "pump", "pump"], gone=[False, gone, gone])
+        fields = [slot(ISR, field) for field in (INIT, ISR, 0, PUMP, 1)]
+        each(f"isr by the field{title}", holding(fields, *entries), by=["isr"] * 5,
+             name=["init", "isr", "zero", "pump", None], gone=[gone, gone, gone, gone, False])
+        inits = [slot(INIT, field) for field in (INIT, ISR, 0, PUMP)]
+        each(f"init has no name{title}", holding(inits, *entries), by=["init"] * 4, name=[None] * 4, gone=[False] * 4)
+        near = [slot(pointer, PUMP) for pointer in (0xF0F0F0F1, 0xF0F0F0EF, 0xFFFFFFFE, 0x0F0F0F0F, 1)]
+        each(f"close to init and isr{title}", holding(near, *entries), by=["thread"] * 5, name=[None] * 5, gone=[False] * 5)
+        each(f"thread whose field is another's{title}", holding([slot(VALVE, PUMP), slot(PUMP, VALVE)], *entries),
+             name=[None, "pump"], gone=[False, gone])
+    mixed = [slot(PUMP, VALVE), slot(ISR, VALVE), slot(VALVE, PUMP), slot(ISR, PUMP)]
+    each("one in use and one gone", holding(mixed, entry(PUMP, b"pump"), removed(VALVE, b"valve")),
+         name=["pump", "valve", "valve", "pump"], gone=[False, True, True, False])
+    init = holding([slot(INIT, INIT), slot(ISR, INIT)], removed(INIT, b"init"))
+    an_event("pointer of init gone, init", init, 0, "4042322160 4042322160 5 100 1 2 3 4 0 init null")
+    an_event("pointer of init gone, isr", init, 1, '4294967295 4042322160 5 100 1 2 3 4 0 isr "init" gone')
 
 
 def beside(pointer):
@@ -183,6 +213,10 @@ def neighbours():
     far = beside(VALVE)
     entries = [entry(PUMP, b"pump"), entry(VALVE, b"valve"), entry(INIT, b"init"), entry(0, b"zero"), entry(ISR, b""),
                entry(far, b"far")]
+    # The same names, some of them gone; x, y and z are never found.
+    some_gone = [removed(far, b"far"), removed(VALVE, b"x"), removed(PUMP, b"x"), removed(far, b"y"), entry(VALVE, b"valve"),
+                 entry(PUMP, b"pump"), removed(ISR, b""), removed(INIT, b"init"), removed(ALARM, b"z", 2), entry(far, b"z", 0, 2),
+                 removed(0, b"zero"), removed(VALVE, b"y"), removed(INIT, b"y")]
     rows = {
         "same pointer": ([slot(PUMP)] * 4, ["pump"] * 4),
         "alternating pointers": ([slot(PUMP), slot(VALVE)] * 3, ["pump", "valve"] * 3),
@@ -205,34 +239,57 @@ def neighbours():
         "empty name and none": ([slot(ISR, ISR), slot(ALARM), slot(ISR, ISR), slot(ISR, ALARM)], ["", None, "", None]),
     }
     for title, (slots, names) in rows.items():
-        a_listing(f"neighbours: {title}", holding(slots, *entries), dict(name=names))
-        turned = holding(slots[2:] + slots[:2], *entries, current=len(slots) - 2)
-        a_listing(f"neighbours: {title}, gone round", turned, dict(name=names))
+        gone = [name in ("far", "", "init", "zero") for name in names]
+        for kind, held, said in (("", entries, [False] * len(names)), (", some gone", some_gone, gone)):
+            a_listing(f"neighbours: {title}{kind}", holding(slots, *held), dict(name=names, gone=said))
+            turned = holding(slots[2:] + slots[:2], *held, current=len(slots) - 2)
+            a_listing(f"neighbours: {title}{kind}, gone round", turned, dict(name=names, gone=said))
 
 
 def registries():
-    """Which entry's name is found, by pointer and in a listing."""
+    """Which entry's name is found, by pointer and in a listing. Of three entries the names lie at 64, 88 and 112."""
+    pump, late, old, older = entry(PUMP, b"pump"), entry(PUMP, b"late"), removed(PUMP, b"old"), removed(PUMP, b"older")
     rows = {
-        "no entries": ([], None),
-        "removed": ([entry(PUMP, b"old", flag=1)], None),
-        "flag 0": ([entry(PUMP, b"pump", flag=0)], 0),
-        "flag 2": ([entry(PUMP, b"pump", flag=2)], 0),
-        "flag 255": ([entry(PUMP, b"pump", flag=255)], 0),
-        "a queue": ([entry(PUMP, b"queue", kind=2)], None),
-        "type 14": ([entry(PUMP, b"last", kind=14)], None),
-        "type 21": ([entry(PUMP, b"more", kind=21)], None),
-        "another pointer": ([entry(PUMP + 1, b"next")], None),
-        "two with one pointer": ([entry(PUMP, b"pump"), entry(PUMP, b"late")], 0),
-        "the lowest removed": ([entry(PUMP, b"old", flag=1), entry(PUMP, b"pump")], 1),
-        "the lowest a queue": ([entry(PUMP, b"queue", kind=2), entry(PUMP, b"pump"), entry(PUMP, b"late")], 1),
-        "removed, queue, thread": ([entry(PUMP, b"old", 1), entry(PUMP, b"queue", 0, 2), entry(PUMP, b"pump", 2)], 2),
-        "a removed one of a bad type": ([entry(PUMP, b"old", 1, 99), entry(VALVE, b"valve"), entry(PUMP, b"pump")], 2),
+        "no entries": ([], "null 0"),
+        "removed": ([old], '"old" gone 3 64'),
+        "a queue": ([entry(PUMP, b"queue", kind=2)], "null 0"),
+        "type 14": ([entry(PUMP, b"last", kind=14)], "null 0"),
+        "type 21": ([entry(PUMP, b"more", kind=21)], "null 0"),
+        "another pointer": ([entry(PUMP + 1, b"next")], "null 0"),
+        "another pointer, removed": ([removed(PUMP + 1, b"next"), removed(PUMP - 1, b"last")], "null 0"),
+        "two with one pointer": ([pump, late], '"pump" live 4 64'),
+        "the lowest removed": ([old, pump], '"pump" live 4 88'),
+        "the highest removed": ([pump, old], '"pump" live 4 64'),
+        "the lowest a queue": ([entry(PUMP, b"queue", kind=2), pump, late], '"pump" live 4 88'),
+        "removed, queue, thread": ([old, entry(PUMP, b"queue", 0, 2), entry(PUMP, b"pump", 2)], '"pump" live 4 112'),
+        "a removed one of a bad type": ([removed(PUMP, b"old", 99), entry(VALVE, b"valve"), pump], '"pump" live 4 112'),
+        "two removed": ([older, old], '"older" gone 5 64'),
+        "three removed": ([old, older, removed(PUMP, b"oldest")], '"old" gone 3 64'),
+        "two in use, the lowest removed": ([old, pump, late], '"pump" live 4 88'),
+        "two in use, the middle removed": ([late, old, pump], '"late" live 4 64'),
+        "two in use, the highest removed": ([pump, late, old], '"pump" live 4 64'),
+        "in use between two removed": ([old, pump, older], '"pump" live 4 88'),
+        "in use behind two removed": ([old, older, pump], '"pump" live 4 112'),
+        "removed behind others": ([entry(VALVE, b"valve"), removed(ALARM, b"alarm"), old], '"old" gone 3 112'),
+        "removed behind fresh entries": ([FRESH, FRESH, old], '"old" gone 3 112'),
+        "fresh entries": ([FRESH, FRESH], "null 0"),
+        "in use with an empty name, removed": ([old, entry(PUMP, b"")], '"" live 0 88'),
+        "removed with an empty name, removed": ([removed(PUMP, b""), old], '"" gone 0 64'),
     }
-    for title, (entries, index) in rows.items():
+    for flag in (0, 2, 255):
+        rows[f"flag {flag}"] = ([entry(PUMP, b"pump", flag)], '"pump" live 4 64')
+        rows[f"removed, flag {flag}"] = ([old, older, entry(PUMP, b"pump", flag)], '"pump" live 4 112')
+        rows[f"removed, a queue of flag {flag}"] = ([entry(PUMP, b"queue", flag, 2), old], '"old" gone 3 88')
+    for kind in (0, 2, 14, 99, 255):
+        other = removed(PUMP, b"other", kind)
+        rows[f"free, type {kind}"] = ([other], "null 0")
+        rows[f"free, type {kind}, then a removed one"] = ([other, old], '"old" gone 3 88')
+    for kind in (14, 21, 28):
+        rows[f"removed, then type {kind} in use"] = ([old, entry(PUMP, b"other", 0, kind)], '"old" gone 3 64')
+    for title, (entries, found) in rows.items():
         dump = holding([slot(PUMP), slot(ISR, PUMP)], *entries)
-        called = None if index is None else "pump"
-        a_name(f"registry: {title}", dump, PUMP, "null 0" if index is None else f'"pump" 4 {64 + 24 * index}')
-        each(f"registry: {title}", dump, name=[called, called])
+        a_name(f"registry: {title}", dump, PUMP, found)
+        each(f"registry: {title}", dump, **told(found, 2))
 
 
 def names():
@@ -255,40 +312,65 @@ def names():
         ("64 bytes of ff", 64, b"\xff" * 64, '"' + r"\u00ff" * 64 + '" 64'),
         ("null by name", 8, b"null", '"null" 4'),
     ]
-    for title, size, called, by_hand in rows:
-        dump = holding([slot(PUMP), slot(ISR, PUMP)], entry(PUMP, called), entry(VALVE, b"next"), size=size)
-        a_name(f"name: {title}", dump, PUMP, by_hand + " 64")
-        said = dict(name=[json.loads(by_hand.rsplit(" ", 1)[0])] * 2)
-        for room in (some, exact, short, plenty):
-            a_listing(f"name: {title}, {room.__name__}", dump, "16 0 0" if room is short else said, room=room)
-    last = holding([slot(VALVE)], entry(PUMP, b"pump"), entry(VALVE, b"valves!!"))
-    a_name("name: full size before the slots", last, VALVE, '"valves!!" 8 88')
     four = [bytes(range(max(1, first), first + 64)) for first in (0, 64, 128, 192)]
-    every = holding([slot(PUMP + i) for i in range(4)], *[entry(PUMP + i, four[i]) for i in range(4)], size=64)
-    a_listing("name: every byte", every, dict(name=[called.decode("latin-1") for called in four]))
-    many = holding([slot(PUMP + 99), slot(PUMP), slot(PUMP + 100)],
-                   *[entry(PUMP + i, b"%d" % i) for i in range(100)], size=4)
-    a_name("many entries, the first", many, PUMP, '"0" 1 64')
-    a_name("many entries, the last", many, PUMP + 99, '"99" 2 2044')
-    a_name("many entries, none", many, PUMP + 100, "null 0")
-    a_listing("many entries, listing", many, dict(name=["99", "0", None]))
+    for flag, kind, rooms in ((0, "live", (some, exact, short, plenty)), (1, "gone", (exact, short))):
+        for title, size, called, by_hand in rows:
+            text, length = by_hand.rsplit(" ", 1)
+            found = f"{text} {kind} {length} 64"
+            dump = holding([slot(PUMP), slot(ISR, PUMP)], entry(PUMP, called, flag), entry(VALVE, b"next"), size=size)
+            a_name(f"name: {title}, {kind}", dump, PUMP, found)
+            an_event(f"name: {title}, {kind}, event 1", dump, 1, told(found, 1))
+            for room in rooms:
+                said = "16 0 0" if room is short else told(found, 2)
+                a_listing(f"name: {title}, {kind}, {room.__name__}", dump, said, room=room)
+        last = holding([slot(VALVE)], entry(PUMP, b"pump"), entry(VALVE, b"valves!!", flag))
+        a_name(f"name: full size before the slots, {kind}", last, VALVE, f'"valves!!" {kind} 8 88')
+        every = holding([slot(PUMP + i) for i in range(4)], *[entry(PUMP + i, four[i], flag) for i in range(4)], size=64)
+        a_listing(f"name: every byte, {kind}", every,
+                  dict(name=[called.decode("latin-1") for called in four], gone=[kind == "gone"] * 4))
+        many = holding([slot(PUMP + 99), slot(PUMP), slot(PUMP + 100)],
+                       *[entry(PUMP + i, b"%d" % i, flag) for i in range(100)], size=4)
+        a_name(f"many entries, the first, {kind}", many, PUMP, f'"0" {kind} 1 64')
+        a_name(f"many entries, the last, {kind}", many, PUMP + 99, f'"99" {kind} 2 2044')
+        a_name(f"many entries, none, {kind}", many, PUMP + 100, "null 0")
+        a_listing(f"many entries, listing, {kind}", many,
+                  dict(name=["99", "0", None], gone=[kind == "gone", kind == "gone", False]))
+    ends = [removed(PUMP, b"old"), *[removed(PUMP, b"no", 2)] * 97, removed(PUMP, b"late"), entry(PUMP, b"pump")]
+    a_name("many entries, in use at the last alone", holding([slot()], *ends, size=4), PUMP, '"pump" live 4 2044')
+    a_name("many entries, gone at both ends", holding([slot()], *ends[:-1], size=4), PUMP, '"old" gone 3 64')
+    a_name("many entries, gone at the last alone", holding([slot()], *ends[1:-1], size=4), PUMP, '"late" gone 4 2004')
 
 
 def finding():
     """The pointer given is matched whatever its context; 12 and 13 are not asked."""
-    entries = [entry(0, b"zero"), entry(ISR, b"isr"), entry(INIT, b"init")]
-    dump = holding([slot()], *entries)
-    a_name("find pointer 0", dump, 0, '"zero" 4 64')
-    a_name("find pointer 0xffffffff", dump, ISR, '"isr" 3 88')
-    a_name("find pointer 0xf0f0f0f0", dump, INIT, '"init" 4 112')
-    a_name("find no such pointer", dump, PUMP, "null 0")
-    for pointer in (0, ISR, INIT):
-        a_name(f"find {pointer:#x} where no entry has it", holding([slot()], entry(PUMP, b"pump")), pointer, "null 0")
-    a_name("find where 12 is broken", Dump().use(1, 3).at(2), PUMP, '"pump" 4 64')
-    a_name("find where 13 is broken", no_id(1), PUMP, '"pump" 4 64')
-    a_name("find none where 12 is broken", Dump().use(1, 3).at(2), ALARM, "null 0")
-    top = Dump(entries=4, slots=4, name_size=4, base=0xFFFFFF00)
-    a_name("find at the top of memory", top, PUMP + 3, '"pump" 4 124')
+    for flag, kind in ((0, "live"), (1, "gone")):
+        dump = holding([slot()], entry(0, b"zero", flag), entry(ISR, b"isr", flag), entry(INIT, b"init", flag))
+        a_name(f"find pointer 0, {kind}", dump, 0, f'"zero" {kind} 4 64')
+        a_name(f"find pointer 0xffffffff, {kind}", dump, ISR, f'"isr" {kind} 3 88')
+        a_name(f"find pointer 0xf0f0f0f0, {kind}", dump, INIT, f'"init" {kind} 4 112')
+        a_name(f"find no such pointer, {kind}", dump, PUMP, "null 0")
+        for pointer in (0, ISR, INIT):
+            other = holding([slot()], entry(PUMP, b"pump", flag))
+            a_name(f"find {pointer:#x} where no entry has it, {kind}", other, pointer, "null 0")
+        turns, ids = Dump().use(1, 3).at(2), no_id(1)
+        turns.entries[0][0] = ids.entries[0][0] = flag
+        a_name(f"find where 12 is broken, {kind}", turns, PUMP, f'"pump" {kind} 4 64')
+        a_name(f"find where 13 is broken, {kind}", ids, PUMP, f'"pump" {kind} 4 64')
+        a_name(f"find none where 12 is broken, {kind}", turns, ALARM, "null 0")
+        top = Dump(entries=4, slots=4, name_size=4, base=0xFFFFFF00)
+        top.entries[3][0] = flag
+        a_name(f"find at the top of memory, {kind}", top, PUMP + 3, f'"pump" {kind} 4 124')
+
+
+def pointer_zero():
+    """A fresh entry has type 0 and names nobody; a free one of type 1 that is else all zeros has an empty name."""
+    rows = {"fresh": ([FRESH] * 3, "null 0"), "free of type 1": ([removed(0, b"")], '"" gone 0 64'),
+            "free of type 1 behind fresh ones": ([FRESH, FRESH, removed(0, b"")], '"" gone 0 112')}
+    for title, (entries, found) in rows.items():
+        dump = holding([slot(ISR, 0), slot(ISR, 0)], *entries)
+        a_name(f"pointer 0, {title}", dump, 0, found)
+        a_name(f"pointer 0, {title}, another", dump, PUMP, "null 0")
+        each(f"pointer 0, {title}", dump, **told(found, 2))
 
 
 def times():
@@ -380,6 +462,10 @@ def refusals():
         both(title, dump, PLAIN, f"{refusal} 0")
         if int(refusal.split()[0]) in OF_THE_HEADER | {11}:
             a_name(f"{title}, name", dump, PUMP, f"{refusal} 0")
+    odd = holding([slot()], removed(PUMP, b"old"), entry(VALVE, b"odd", kind=15))
+    a_name("refusal 11 where a gone one has the pointer, name", odd, PUMP, "11 1 0")
+    an_event("refusal 11 where a gone one has the pointer, event", odd, 0, "11 1")
+    both("refusal 11 where a gone one has the pointer", odd, PLAIN, "11 1 0")
     both("refusal 14", stamped(1, 2), Reading(0, 0, 0), "14 0 0")
     both("refusal 14, empty ring", Dump(), Reading(0, 0, 0), "14 0 0")
 
@@ -418,19 +504,21 @@ def rooms():
         a_line(f"room short, line {position}", ring, position, "16 0 0", room=short)
         a_line(f"room exact, line {position}", ring, position, dict(key=[position]), room=exact)
         a_line(f"room 9999, line {position}", ring, position, dict(key=[position]), room=of(9999))
-    length = len("".join(line(i, 0, 0, 5, PUMP, 2, 16, (1, 2, 3, 4), None) for i in range(3)))
+    length = len("".join(line(i, 0, 0, 5, PUMP, 2, 16, (1, 2, 3, 4), None, False) for i in range(3)))
     plain = stamped(100, 100, 100)
     for room in (length - 1, length, length + 1):
         said = "16 0 0" if room < length else dict(key=[0, 1, 2])
         a_listing(f"room {room} for {length}", plain, said, room=of(room))
-    longest = holding([[ISR, ISR, ISR, -i % 2**32, *[ISR] * 4] for i in range(4)], entry(ISR, b"\xff" * 64), size=64,
-                      mask=0xFFFFFFFF)
     reading = Reading(rate=1, unit=16777215, serial=TWO_40 - 4)
-    for room in (exact, some, plenty):
-        a_listing(f"longest lines, {room.__name__}", longest, dict(name=["\xff" * 64] * 4), reading, room)
-        a_line(f"longest line, {room.__name__}", longest, 3, dict(key=["18446744073709551615"]), reading, room)
-    a_listing("longest lines, short", longest, "16 0 0", reading, short)
-    a_line("longest line, short", longest, 3, "16 0 0", reading, short)
+    for title, pointer, flag, gone in (("isr", ISR, 0, False), ("thread", ISR - 1, 0, False), ("gone thread", ISR - 1, 1, True)):
+        longest = holding([[pointer, ISR, ISR, -i % 2**32, *[ISR] * 4] for i in range(4)],
+                          entry(pointer, b"\xff" * 64, flag), size=64, mask=0xFFFFFFFF)
+        said = dict(name=["\xff" * 64] * 4, gone=[gone] * 4)
+        for room in (exact, some, plenty):
+            a_listing(f"longest lines, {title}, {room.__name__}", longest, said, reading, room)
+            a_line(f"longest line, {title}, {room.__name__}", longest, 3, dict(key=["18446744073709551615"]), reading, room)
+        a_listing(f"longest lines, {title}, short", longest, "16 0 0", reading, short)
+        a_line(f"longest line, {title}, short", longest, 3, "16 0 0", reading, short)
 
 
 def positions():
@@ -459,7 +547,7 @@ def seeded_dump(chance):
                          *(chance.bits(32) for _ in range(5))]
     for i in range(len(dump.entries)):
         called = chance.bytes(chance.below(dump.name_size + 1)) + chance.one(b"", b"\0x")
-        dump.entries[i] = [chance.one(0, 0, 1, 2, 255), chance.one(1, 1, 1, 2, 28), chance.bytes(2),
+        dump.entries[i] = [chance.one(0, 1, 1, 1, 2, 255), chance.one(1, 1, 1, 2, 28), chance.bytes(2),
                            chance.one(0, *POINTERS), chance.bits(32), chance.bits(32), called[:dump.name_size]]
     dump.reserved = [chance.bits(16), *(chance.bits(32) for _ in range(3))]
     dump.tail = chance.bytes(chance.below(3) * 11)
@@ -493,18 +581,12 @@ def seeded(index, chance, order):
 
 # The replies.
 
-def called(found):
-    return name(None if found is None else found.bytes)
-
-
 def event_reply(raw, case, room):
-    event = one_event(raw, case.position)
-    return " ".join([*map(str, event.words), str(event.ticks), CONTEXTS[event.by], called(event.name)])
+    return shown_event(one_event(raw, case.position))
 
 
 def name_reply(raw, case, room):
-    found = find_name(raw, case.pointer)
-    return "null 0" if found is None else f"{called(found)} {len(found.bytes)} {found.place}"
+    return found_name(find_name(raw, case.pointer))
 
 
 def line_reply(raw, case, room):
@@ -548,9 +630,10 @@ def parts(case, given):
     """The events of a reply, each by the names of its fields."""
     if case.kind != "e":
         return [json.loads(text) for text in given.split("\n")[1:]]
-    *words, ticks, by, text = given.split(" ", 10)
+    *words, ticks, by, name = given.split(" ", 10)
     ptr, field, ident, _, *info = map(int, words)
-    return [dict(ptr=ptr, field=field, id=ident, info=info, ticks=int(ticks), by=by, name=json.loads(text))]
+    text, kind = (name, "") if name == "null" else name.rsplit(" ", 1)
+    return [dict(ptr=ptr, field=field, id=ident, info=info, ticks=int(ticks), by=by, name=json.loads(text), gone=kind == "gone")]
 
 
 def agrees(case, given):
@@ -577,8 +660,8 @@ def add(case, order, title, cases):
     cases.add(title, raw, [(case.kind, given_to(case, room), given)])
 
 
-GROUPS = (whole_case, rings, contexts, neighbours, registries, names, finding, times, rates, nearest_microseconds, keys, refusals, orders,
-          rooms, positions)
+GROUPS = (whole_case, rings, contexts, neighbours, registries, names, finding, pointer_zero, times, rates, nearest_microseconds, keys,
+          refusals, orders, rooms, positions)
 cases = Cases()
 for group in GROUPS:
     group()

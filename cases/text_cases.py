@@ -13,42 +13,47 @@ import struct
 from made import Chance, keep
 from texts import DOCUMENT, LIMIT, line, name, number, read_back
 
-MOST = (1 << 64) - 1
+MOST, WORD = (1 << 64) - 1, (1 << 32) - 1
 
 NUMBERS = [9, 10, 99, 100, 101, 4294967295, 4294967296]
 NUMBERS += [n for k in range(20) for n in (10**k - 1, 10**k)]
 NUMBERS += [LIMIT - 1, LIMIT, LIMIT + 1, LIMIT + 2, LIMIT + 3, 1 << 63, MOST - 2048, MOST - 1024, MOST - 1023, MOST]
 
 WHOLE_CASE = [
-    (LIMIT, 0, 0, 5, 536875008, 2, 16, (1, 2, 3, 4), b"pump"),
-    (LIMIT + 1, 56, 18, 1025, 4294967295, 1, 536875008, (0, 0, 0, 0), b"pump"),
-    (LIMIT + 2, 56, 18, 6, 536879104, 2, 16, (7, 0, 0, 0), None),
+    (LIMIT, 0, 0, 5, 536875008, 2, 16, (1, 2, 3, 4), b"pump", False),
+    (LIMIT + 1, 56, 18, 1025, 4294967295, 1, 536875008, (0, 0, 0, 0), b"pump", False),
+    (LIMIT + 2, 56, 18, 6, 536879104, 2, 16, (7, 0, 0, 0), None, False),
 ]
 PLAIN = (1, 2, 3, 4, 5, 2, 6, (7, 8, 9, 10))
 LINES = list(WHOLE_CASE)
-LINES += [PLAIN + (bytes([b]),) for b in range(256)]
-LINES += [PLAIN + (called,) for called in (b"", None, bytes(range(256)), b"\xff" * 64, b'A"\n', b"\\" * 3)]
-LINES += [(n, n, n, 4294967295, 4294967295, by, 4294967295, (4294967295, 0, 4294967295, 0), b"pump")
-          for by in range(3) for n in (0, LIMIT - 1, LIMIT, LIMIT + 1, MOST)]
+# Every byte as a name, every second one gone.
+LINES += [PLAIN + (bytes([b]), b % 2 == 1) for b in range(256)]
+LINES += [PLAIN + (called, gone) for gone in (False, True)
+          for called in (b"", None, bytes(range(256)), b"\xff" * 64, b'A"\n', b"\\" * 3)]
+LINES += [(n, n, n, WORD, WORD, by, WORD, (WORD, 0, WORD, 0), b"pump", gone)
+          for gone in (False, True) for by in range(3) for n in (0, LIMIT - 1, LIMIT, LIMIT + 1, MOST)]
+# With any name that a dump can hold, the longest line is a thread's whose "gone" is false.
+LINES += [(MOST, MOST, MOST, WORD, WORD, by, WORD, (WORD,) * 4, called, gone)
+          for called in (b"\xff" * 64, None) for gone in (False, True) for by in range(3)]
 # The limit as key and as microseconds; each line is named after its case.
 LINES += [case for n, title in ((LIMIT - 1, b"2^53 - 1"), (LIMIT, b"2^53"), (LIMIT + 1, b"2^53 + 1"))
-          for case in ((n, *PLAIN[1:], b"key " + title), (*PLAIN[:2], n, *PLAIN[3:], b"us " + title))]
+          for case in ((n, *PLAIN[1:], b"key " + title, False), (*PLAIN[:2], n, *PLAIN[3:], b"us " + title, False))]
 
 chance = Chance(2026)
 NUMBERS += [chance.bits(64) for _ in range(1000)]
 for _ in range(200):
     called = None if chance.below(4) == 0 else chance.bytes(chance.below(65))
     LINES.append((chance.bits(64), chance.bits(63), chance.bits(64), chance.bits(32), chance.bits(32), chance.below(3),
-                  chance.bits(32), tuple(chance.bits(32) for _ in range(4)), called))
+                  chance.bits(32), tuple(chance.bits(32) for _ in range(4)), called, chance.below(2) == 1))
 
 data, out = bytearray(), []
 for n in NUMBERS:
     data += b"n" + struct.pack("<Q", n)
     out.append(f"{number(n)} {len(number(n))} {min(int(float(n)), MOST)}\n")
 for case in LINES:
-    key, ticks, us, id, ptr, by, field, info, called = case
+    key, ticks, us, id, ptr, by, field, info, called, gone = case
     bytes_of = called or b""
-    data += b"l" + struct.pack("<QQQIIBIIIIIBH", key, ticks, us, id, ptr, by, field, *info, called is not None, len(bytes_of)) + bytes_of
+    data += b"l" + struct.pack("<QQQIIBIIIIIBBH", key, ticks, us, id, ptr, by, field, *info, called is not None, gone, len(bytes_of)) + bytes_of
     text = line(*case)
     read_back(text, *case)
     out.append(f"{text}{len(text)} 0 0 {len(text)} 0 0\n")

@@ -1,7 +1,7 @@
 """The calls that the program `cases` makes on buffers, and what it must print.
 
-The answers and the bytes come from writer.py and the listings from reader.py, which are written from
-document 01 and not from our code. A named case also says by hand what each call must answer, and mostly
+The answers and the bytes come from writer.py, names and listings from reader.py, which are written from
+the documents and not from our code. A named case also says by hand what each call must answer, and mostly
 the dump that must be left, field by field; the two must agree, or nothing is written. The seeded cases
 have the two modules' word alone.
 """
@@ -11,9 +11,9 @@ from collections import namedtuple
 
 from dumps import (ALARM, INIT, ISR, OF_THE_HEADER, PUMP, VALVE, WORDS, Dump, Refused, broken, changed, damage, entry,
                    no_id, slot)
-from form import MOST_IN_HEX, Cases, digest, written
+from form import MOST_IN_HEX, Cases, digest, found_name, written
 from made import Chance
-from reader import Reading, listing
+from reader import Reading, find_name, listing
 from texts import DOCUMENT
 from writer import Format, Object, format_buffer, record, register, remove
 
@@ -50,6 +50,10 @@ def registering(pointer, called, kind=1, one=0, two=0, reserved=b"\0\0"):
 
 def removing(pointer):
     return "x", (pointer,)
+
+
+def naming(pointer):
+    return "n", (pointer,)
 
 
 def listed(reading=PLAIN):
@@ -107,11 +111,14 @@ def whole_case():
             slot(0x20002000, 16, 6, 20, (7, 0, 0, 0))]
     ends = changed(Dump(entries=1, slots=3).at(1), slots=[last[2], last[0], last[1]])
     assert ends.current == 0x20000000 + 104
+    reading = Reading(rate=3000000, unit=8192, serial=0)
     case("whole case, formatted", plain(168), (formatting(entries=1), "done 3"), (listed(), ""), ends=fresh(1, 3))
     case("whole case", plain(168), (formatting(entries=1), "done 3"), (registering(PUMP, b"pump"), "done 0"),
          (recording(slot(ident=4, stamp=65400)), "done 0"), (recording(last[0]), "done 1"),
          (recording(last[1]), "done 2"), (recording(last[2]), "done 0"),
-         (listed(Reading(rate=3000000, unit=8192, serial=0)), DOCUMENT), ends=ends)
+         (listed(reading), DOCUMENT), ends=ends)
+    case("whole case, removed", ends, (listed(reading), DOCUMENT), (removing(PUMP), "done 0"),
+         (listed(reading), DOCUMENT.replace('"pump","gone":false', '"pump","gone":true')))
 
 
 def tops():
@@ -128,8 +135,9 @@ def tops():
         case(f"base {base:#x}, pointer 0 to the {title}", pattern(256),
              (formatting(base, size=4, entries=4), "done 4"), (registering(PUMP, b"pump"), "done 0"),
              (registering(VALVE, b"valve"), "done 1"), *rounds(9, 4),
-             (listed(), dict(id=[6, 7, 8, 9], ticks=[0, 1, 2, 3], name=["pump"] * 4)), (removing(PUMP), "done 0"),
-             (listed(), dict(id=[6, 7, 8, 9], name=[None] * 4)), ends=ends)
+             (listed(), dict(id=[6, 7, 8, 9], ticks=[0, 1, 2, 3], name=["pump"] * 4, gone=[False] * 4)),
+             (removing(PUMP), "done 0"), (naming(PUMP), '"pump" gone 4 64'),
+             (listed(), dict(id=[6, 7, 8, 9], name=["pump"] * 4, gone=[True] * 4)), ends=ends)
 
 
 def lengths():
@@ -144,7 +152,8 @@ def lengths():
         case(f"65,536 bytes, {most} entries", plain(65536), (formatting(size=size, entries=most + 1), "24 0"),
              (formatting(size=size, entries=most), "done 1"), (registering(PUMP, b"pump"), "done 0"),
              (removing(VALVE), "22 0"), (recording(slot()), "done 0"), (recording(slot(ident=6)), "done 0"),
-             (listed(), dict(id=[6], name=["pump"])), (removing(PUMP), "done 0"))
+             (listed(), dict(id=[6], name=["pump"], gone=[False])), (removing(PUMP), "done 0"),
+             (listed(), dict(id=[6], name=["pump"], gone=[True])))
 
 
 def masks():
@@ -371,11 +380,89 @@ def names():
         case(f"name: {title}", pattern(48 + 2 * (16 + size) + 64), (formatting(size=size, entries=2), "done 2"),
              (registering(PUMP, given), "done 0"), (recording(slot()), "done 0"),
              (listed(), dict(name=[stored.decode("latin-1")])), ends=ends)
+    live, gone = dict(gone=[False] * 2), dict(gone=[True] * 2)
     case("names come and go", plain(168), (formatting(entries=1), "done 3"), (recording(slot()), "done 0"),
-         (recording(slot(ISR, PUMP)), "done 1"), (listed(), dict(name=[None, None])),
-         (registering(PUMP, b"first"), "done 0"), (listed(), dict(name=["first"] * 2)), (removing(PUMP), "done 0"),
-         (listed(), dict(name=[None, None])), (registering(PUMP, b"2nd"), "done 0"), (listed(), dict(name=["2nd"] * 2)),
-         (removing(PUMP), "done 0"), (registering(PUMP, b"queue", 2), "done 0"), (listed(), dict(name=[None, None])))
+         (recording(slot(ISR, PUMP)), "done 1"), (listed(), dict(name=[None, None], **live)),
+         (registering(PUMP, b"first"), "done 0"), (listed(), dict(name=["first"] * 2, **live)), (removing(PUMP), "done 0"),
+         (listed(), dict(name=["first"] * 2, **gone)), (registering(PUMP, b"2nd"), "done 0"),
+         (listed(), dict(name=["2nd"] * 2, **live)), (removing(PUMP), "done 0"), (registering(PUMP, b"queue", 2), "done 0"),
+         (listed(), dict(name=[None, None], **live)), (removing(PUMP), "done 0"), (listed(), dict(name=[None, None], **live)))
+
+
+def removed_names():
+    """A removed thread's name is found as gone until its entry is used again. Names lie at 64, 88 and 112."""
+    old, used = entry(PUMP, b"old", flag=1), [slot(), slot(ISR, PUMP), [0] * 8]
+    case("removed, found", plain(192), (formatting(entries=2), "done 3"), (naming(PUMP), "null 0"), (naming(0), "null 0"),
+         (registering(PUMP, b"pump", one=7, two=8, reserved=b"\xab\xcd"), "done 0"), (naming(PUMP), '"pump" live 4 64'),
+         (recording(slot()), "done 0"), (recording(slot(ISR, PUMP)), "done 1"), (removing(PUMP), "done 0"),
+         (naming(PUMP), '"pump" gone 4 64'), (removing(PUMP), "22 0"), (naming(PUMP), '"pump" gone 4 64'),
+         (listed(), dict(name=["pump"] * 2, gone=[True] * 2)), (naming(0), "null 0"),
+         ends=changed(fresh(2, 3).at(2), entries=[entry(PUMP, b"pump", 1, 1, b"\xab\xcd", 7, 8), FREE], slots=used))
+    for kind, found in ((1, '"valve" live 5 64'), (2, "null 0")):
+        case(f"removed, type {kind} in its place", holding(entry(PUMP, b"pump"), FREE), (removing(PUMP), "done 0"),
+             (registering(VALVE, b"valve", kind), "done 0"), (naming(PUMP), "null 0"), (naming(VALVE), found),
+             (removing(VALVE), "done 0"), (naming(PUMP), "null 0"), (naming(VALVE), found.replace("live", "gone")),
+             ends=holding(entry(VALVE, b"valve", 1, kind), FREE))
+    case("removed, no more room", holding(old, entry(VALVE, b"valve")), (registering(ALARM, b"alarm"), "done 0"),
+         (naming(PUMP), "null 0"), (registering(PUMP, b"pump"), "21 0"), (naming(PUMP), "null 0"))
+    case("removed, refused in its place", holding(old), (registering(ALARM, b"alarm", 0), "19 0"),
+         (registering(ALARM, b"\0"), "23 0"), (naming(PUMP), '"old" gone 3 64'), (naming(ALARM), "null 0"), ends=holding(old))
+    case("removed twice", plain(176), (formatting(entries=2), "done 2"), (registering(VALVE, b"valve"), "done 0"),
+         (registering(PUMP, b"first"), "done 1"), (removing(VALVE), "done 0"), (removing(PUMP), "done 1"),
+         (registering(PUMP, b"2nd"), "done 0"), (naming(PUMP), '"2nd" live 3 64'), (removing(PUMP), "done 0"),
+         (naming(PUMP), '"2nd" gone 3 64'), (registering(ALARM, b"alarm"), "done 0"), (naming(PUMP), '"first" gone 5 88'),
+         (registering(VALVE, b"again"), "done 1"), (naming(PUMP), "null 0"),
+         ends=changed(fresh(2, 2, tail=plain(16)), entries=[entry(ALARM, b"alarm"), entry(VALVE, b"again")]))
+    again = {"in the same entry": ([entry(VALVE, b"valve"), old, FREE], 88, "done 1", 88),
+             "in a lower one": ([FREE, entry(VALVE, b""), old], 112, "done 0", 64),
+             "in the lowest of three": ([old, old, old], 64, "done 0", 64)}
+    for title, (entries, before, answer, place) in again.items():
+        case(f"registered again {title}", holding(*entries), (naming(PUMP), f'"old" gone 3 {before}'),
+             (registering(PUMP, b"new"), answer), (naming(PUMP), f'"new" live 3 {place}'), (removing(PUMP), answer),
+             (naming(PUMP), f'"new" gone 3 {place}'))
+    case("registered again as a queue", holding(FREE, old), (registering(PUMP, b"queue", 2), "done 0"),
+         (naming(PUMP), '"old" gone 3 88'), (removing(PUMP), "done 0"), (naming(PUMP), '"old" gone 3 88'))
+    asked = [(naming(PUMP), '"pump" live 4 88'), (naming(ALARM), '"alarm" gone 5 112'), (naming(VALVE), "null 0")]
+    for kind in (2, 14, 21, 28):
+        others = [entry(PUMP, b"pump"), entry(ALARM, b"alarm", flag=1)]
+        case(f"type {kind} removed", holding(entry(VALVE, b"other", kind=kind), *others), *asked, (removing(VALVE), "done 0"),
+             *asked, ends=holding(entry(VALVE, b"other", 1, kind), *others))
+    case("a queue of the same pointer removed", holding(entry(PUMP, b"queue", kind=2), entry(PUMP, b"pump")),
+         (naming(PUMP), '"pump" live 4 88'), (removing(PUMP), "done 0"), (naming(PUMP), '"pump" live 4 88'),
+         (removing(PUMP), "done 1"), (naming(PUMP), '"pump" gone 4 88'))
+    case("one of two threads removed", holding(entry(PUMP, b"pump"), entry(PUMP, b"late", 2)), (naming(PUMP), '"pump" live 4 64'),
+         (removing(PUMP), "done 0"), (naming(PUMP), '"late" live 4 88'), (removing(PUMP), "done 1"),
+         (naming(PUMP), '"pump" gone 4 64'), (removing(PUMP), "22 0"), (naming(PUMP), '"pump" gone 4 64'))
+    for pointer in (0, INIT, ISR):
+        case(f"pointer {pointer:#x} removed", plain(168), (formatting(entries=1), "done 3"), (naming(pointer), "null 0"),
+             (registering(pointer, b"pump"), "done 0"), (naming(pointer), '"pump" live 4 64'), (removing(pointer), "done 0"),
+             (naming(pointer), '"pump" gone 4 64'), (recording(slot(INIT, pointer)), "done 0"),
+             (recording(slot(ISR, pointer)), "done 1"), (listed(), dict(name=[None, "pump"], gone=[False, True])))
+    case("formatted again after a removal", holding(old, old), (naming(PUMP), '"old" gone 3 64'), (formatting(entries=2), "done 2"),
+         (naming(PUMP), "null 0"), (naming(0), "null 0"), ends=fresh(2, 2))
+    odd = holding(entry(PUMP, b"odd", kind=15), old)
+    case("an odd type removed", odd, (naming(PUMP), "11 0"), (removing(PUMP), "done 0"), (naming(PUMP), '"old" gone 3 88'),
+         (registering(VALVE, b"valve"), "done 0"), (registering(ALARM, b"alarm"), "done 1"), (naming(PUMP), "null 0"))
+
+
+def names_over_time():
+    """Writes, registrations and removals, taken and refused: names and kinds are those of the registry when it is read."""
+    case("names over a history", plain(192), (formatting(entries=2), "done 3"), (registering(PUMP, b"pump"), "done 0"),
+         (recording(slot(PUMP, 16, 1, 10)), "done 0"), (registering(VALVE, b"valve"), "done 1"),
+         (recording(slot(VALVE, 16, 2, 20)), "done 1"), (listed(), dict(id=[1, 2], name=["pump", "valve"], gone=[False, False])),
+         (removing(PUMP), "done 0"), (recording(slot(0)), "17 0"), (recording(slot(ISR, PUMP, 3, 30)), "done 2"),
+         (listed(), dict(id=[1, 2, 3], name=["pump", "valve", "pump"], gone=[True, False, True])),
+         (recording(slot(INIT, PUMP, 4, 40)), "done 0"), (removing(PUMP), "22 0"),
+         (listed(), dict(id=[2, 3, 4], name=["valve", "pump", None], gone=[False, True, False])),
+         (registering(ALARM, b"alarm", 15), "19 0"), (registering(VALVE, b"again"), "20 1"), (registering(ALARM, b"alarm"), "done 0"),
+         (recording(slot(ALARM, 16, 5, 50)), "done 1"),
+         (listed(), dict(id=[3, 4, 5], name=[None, None, "alarm"], gone=[False, False, False])),
+         (removing(VALVE), "done 1"), (registering(PUMP, b"again"), "done 1"), (recording(slot(PUMP, 16, 6, 60)), "done 2"),
+         (listed(), dict(id=[4, 5, 6], name=[None, "alarm", "again"], gone=[False, False, False])),
+         (removing(ALARM), "done 0"), (removing(PUMP), "done 1"), (recording(slot(ALARM, ident=0)), "18 0"),
+         (listed(), dict(id=[4, 5, 6], ticks=[0, 10, 20], name=[None, "alarm", "again"], gone=[False, True, True])),
+         ends=changed(fresh(2, 3), entries=[entry(ALARM, b"alarm", 1), entry(PUMP, b"again", 1)],
+                      slots=[slot(INIT, PUMP, 4, 40), slot(ALARM, 16, 5, 50), slot(PUMP, 16, 6, 60)]))
 
 
 def reserved_bytes():
@@ -491,9 +578,10 @@ def seeded_dump(chance):
 
 
 def seeded(index, chance):
-    """A history: a dump made by hand, or bytes and a format that fits; then calls, and a listing at the end."""
+    """A history: a dump made by hand, or bytes and a format that fits; then calls, and names and a listing at the end."""
     reading = Reading(chance.one(1, 3, 1000000, chance.bits(32)), chance.one(0, 8192, chance.bits(24)), chance.bits(40))
-    calls = [seeded_call(chance) for _ in range(2 + chance.below(16))] + [listed(reading)]
+    calls = [seeded_call(chance) for _ in range(2 + chance.below(16))]
+    calls += [naming(pointer) for pointer in sorted({*OBJECTS})] + [listed(reading)]
     steps = [(call, None) for call in calls]
     if chance.below(4) == 0:
         return Case(f"seeded {index}", seeded_dump(chance), steps, None)
@@ -529,10 +617,13 @@ def reply_to(letter, given, buffer):
     """A call's answer, and the reply that the program must print."""
     if letter == "b":
         return buffer.hex(), buffer.hex()
-    if letter != "a":
+    if letter in WRITING:
         answer = answer_to(letter, given, buffer)
         return answer, f"{answer} {digest(bytes(buffer))}"
     try:
+        if letter == "n":
+            found = found_name(find_name(bytes(buffer), *given))
+            return found, found
         text = listing(bytes(buffer), *given)
         return text, written(text)
     except Refused as refusal:
@@ -562,7 +653,8 @@ def add(made, order, title, cases):
 
 
 GROUPS = (whole_case, tops, lengths, masks, name_sizes, rooms, counts, leftovers, turned, writes, rings, stamps, kept,
-          types, same_pointer, no_room, removals, zeros, names, reserved_bytes, damaged, unsound, orders)
+          types, same_pointer, no_room, removals, zeros, names, removed_names, names_over_time, reserved_bytes, damaged,
+          unsound, orders)
 cases = Cases()
 for group in GROUPS:
     group()

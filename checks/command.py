@@ -8,6 +8,7 @@ import shutil
 import signal
 import socket
 import stat
+import struct
 import subprocess
 import sys
 import tempfile
@@ -48,10 +49,49 @@ def wrong(number, name):
     return f"{name} is no decimal number from 0 to {number}\n".encode()
 
 
+def removed_threads():
+    """A big-endian dump with removed threads, and its lines, by hand: in-use entries count before free ones, the lowest of each."""
+    entries = [
+        # flag, type, pointer, name; the sixth is as formatting leaves it
+        (1, 1, 0x20001000, b"first"),
+        (1, 1, 0x20001100, b"valve"),
+        (0, 1, 0x20001000, b"pump"),
+        (1, 1, 0x20001100, b"later"),
+        (1, 2, 0x20001200, b"queue"),
+        (1, 0, 0, b""),
+        (1, 1, 0xF0F0F0F0, b"start"),
+    ]
+    events = [
+        # thread pointer, priority field, what the line says of them
+        (0x20001000, 16, '"thread","name":"pump","gone":false'),
+        (0x20001100, 16, '"thread","name":"valve","gone":true'),
+        (0xFFFFFFFF, 0x20001100, '"isr","name":"valve","gone":true'),
+        (0x20001200, 16, '"thread","name":null,"gone":false'),
+        (0xFFFFFFFF, 0, '"isr","name":null,"gone":false'),
+        (0xF0F0F0F0, 0x20001100, '"init","name":null,"gone":false'),
+    ]
+    base, start = 0x20000000, 48 + 24 * len(entries)
+    end = start + 32 * len(events)
+    dump = struct.pack(">12I", 0x54585442, HALF, base, base + 48, 8, base + start, base + start, base + end, base + start, 0, 0, 0)
+    for flag, kind, pointer, name in entries:
+        dump += struct.pack(">BB2xIII8s", flag, kind, pointer, 0, 0, name)
+    lines = ""
+    for stamp, (pointer, field, said) in enumerate(events):
+        dump += struct.pack(">8I", pointer, field, 5, stamp, 1, 2, 3, 4)
+        lines += f'{{"key":{stamp},"ticks":{stamp},"us":{stamp},"id":5,"ptr":{pointer},"by":{said},"field":{field},"info":[1,2,3,4]}}\n'
+    return dump, lines.encode()
+
+
 HALF, WHOLE = (1 << 32) - 1, (1 << 64) - 1
+# Removing sets the entry's flag and nothing else.
+REMOVED = PUMP[:48] + b"\1" + PUMP[49:]
+REMOVED_LINES = LINES.replace(b'"name":"pump","gone":false', b'"name":"pump","gone":true')
+THREADS, THREADS_LINES = removed_threads()
 CASES = [
     # the dump, the arguments after it, standard output, standard error, the exit status
     (PUMP, GOOD, LINES, b"", 0),
+    (REMOVED, GOOD, REMOVED_LINES, b"", 0),
+    (THREADS, ("1000000", "0", "0"), THREADS_LINES, b"", 0),
     (FULL, GOOD, FULL_LINES, b"", 0),
     (EMPTY, ("1", "0", "0"), b"", b"", 0),
     (PUMP[:47], ("1", "0", "0"), b"1 0\n", b"", 1),
@@ -180,6 +220,7 @@ MENDED = [
     (PUMP, PUMP, line_on(168)),
     (PUMP + bytes(99), PUMP, line_on(168)),
     (FULL, FULL, line_on(65520)),
+    (THREADS, THREADS, line_on(408)),
     (CUT, CUT_COPY, line_on(168, missing=1, packed=1, moved=2)),
     (ALL, ALL_COPY, ALL_LINE),
 ]

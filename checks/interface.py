@@ -38,7 +38,7 @@ def example_gives(program, words, status, stdout, title="no input", given=b""):
 
 
 def lists(program, cut):
-    # The lines are document 01's own.
+    # The lines are document 01's own, as document 02 amends them.
     lines = (ROOT / "crates" / "lepsaino" / "stdout").read_bytes()
     example_gives(program, [SAMPLE, 3000000, 8192, 0], 0, lines)
     example_gives(program, [SAMPLE, 0, 8192, 0], 1, b"14 0\n")

@@ -7,7 +7,7 @@
  * - A length is at most PTRDIFF_MAX, as that of every object in C is.
  * - Bytes lent to be written overlap no other bytes lent to the same call, and nothing else reads or writes them before it returns.
  * - Nothing writes bytes lent to be read before the call returns.
- * - The stack has room: 14 KB for lepsaino_listing, 2 KB for any other call.
+ * - The stack has room: 18 KB for lepsaino_listing, 2 KB for any other call.
  *
  * A refusal is the number and the place of document 01's table, which stands at the end of this file; 0 as its number means that the call was
  * accepted. After a refusal every field but these two is 0, and no lent byte has changed. No call keeps a pointer, allocates, or reads or writes
@@ -70,9 +70,16 @@ enum lepsaino_context {
     LEPSAINO_THREAD = 3
 };
 
+/* Whether there is a name, and whose: a live thread's, whose entry in the registry is in use, or a removed thread's, whose entry is free. */
+enum lepsaino_name_kind {
+    LEPSAINO_NAMELESS = 0,
+    LEPSAINO_LIVE = 1,
+    LEPSAINO_GONE = 2
+};
+
 /*
- * One event. named is 1 where there is a name, which is the dump's bytes from name_at on, name_length of them: they lie within the dump. Where named is 0
- * so are both. context is one of enum lepsaino_context.
+ * One event. context is one of enum lepsaino_context, and name_kind one of enum lepsaino_name_kind. The name is the dump's bytes from name_at on, name_length of
+ * them: they lie within the dump. Where name_kind is LEPSAINO_NAMELESS both are 0.
  */
 struct lepsaino_event {
     uint32_t refusal;
@@ -80,16 +87,16 @@ struct lepsaino_event {
     struct lepsaino_slot slot;
     uint64_t ticks;
     uint32_t context;
-    uint32_t named;
+    uint32_t name_kind;
     size_t name_at;
     size_t name_length;
 };
 
-/* What finding a name gives: named is 1 where there is one, which is the dump's bytes from at on, length of them. Where named is 0 so are both. */
+/* What finding a name gives: kind is one of enum lepsaino_name_kind, and the name is the dump's bytes from at on, length of them. Where kind is LEPSAINO_NAMELESS both are 0. */
 struct lepsaino_name {
     uint32_t refusal;
     size_t place;
-    uint32_t named;
+    uint32_t kind;
     size_t at;
     size_t length;
 };
@@ -172,7 +179,7 @@ struct lepsaino_checked lepsaino_finish(struct lepsaino_pieces state);
 /* One event by its position, from 0, oldest first: checks 1 to 13, then 25. */
 struct lepsaino_event lepsaino_event(const uint8_t *dump, size_t dump_length, size_t position);
 
-/* The name of the thread with the pointer given: checks 1 to 11. */
+/* The name for a pointer: that of the lowest entry of a live thread with it, or else of the lowest of one that is gone. Checks 1 to 11. */
 struct lepsaino_name lepsaino_find_name(const uint8_t *dump, size_t dump_length, uint32_t pointer);
 
 /* The line of one event, with its line feed, at the front of out: checks 1 to 15, then 25, 16. The value is its length; out past it keeps its bytes. */

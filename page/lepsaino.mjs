@@ -90,12 +90,13 @@ function readNumberedLine(text, line) {
   const by = contextOf(ptr);
   scanner.after(`,"by":"${by}"`);
   const name = scanner.after(',"name":').name(by);
+  const gone = scanner.after(',"gone":').gone(name);
   const field = scanner.after(',"field":').word();
   const info = [scanner.after(',"info":[').word()];
   while (info.length < 4) info.push(scanner.after(",").word());
   scanner.after("]}").end();
   return Object.freeze({
-    key: BigInt(keyText), keyText, ticks, us, id, ptr, by, name, field, info: Object.freeze(info),
+    key: BigInt(keyText), keyText, ticks, us, id, ptr, by, name, gone, field, info: Object.freeze(info),
   });
 }
 
@@ -131,9 +132,14 @@ class Scanner {
     return pattern.exec(this.text);
   }
 
+  /** The next characters as a reason shows them. */
+  next() {
+    return shown(this.text.slice(this.at, this.at + 40));
+  }
+
   after(expected) {
     if (!this.text.startsWith(expected, this.at)) {
-      this.refuse(`expected ${expected} but found ${shown(this.text.slice(this.at, this.at + 40))}`);
+      this.refuse(`expected ${expected} but found ${this.next()}`);
     }
     this.at += expected.length;
     return this;
@@ -192,6 +198,15 @@ class Scanner {
     }
     this.at += 1;
     return name;
+  }
+
+  /** Whether the name is that of a removed thread; where there is no name, it never is. */
+  gone(name) {
+    const text = ["true", "false"].find((each) => this.text.startsWith(each, this.at));
+    if (text === undefined) this.refuse(`expected true or false but found ${this.next()}`);
+    if (text === "true" && name === null) this.refuse("there is no name, so none is gone: expected false");
+    this.at += text.length;
+    return text === "true";
   }
 
   nameCharacter() {

@@ -10,14 +10,16 @@ const FEWEST_CORPUS_KEYS = 1000;
 const FEWEST_CORPUS_LISTINGS = 100;
 
 const DOCUMENT_LINES = [
-  '{"key":"9007199254740992","ticks":0,"us":0,"id":5,"ptr":536875008,"by":"thread","name":"pump","field":16,"info":[1,2,3,4]}',
-  '{"key":"9007199254740993","ticks":56,"us":18,"id":1025,"ptr":4294967295,"by":"isr","name":"pump","field":536875008,"info":[0,0,0,0]}',
-  '{"key":"9007199254740994","ticks":56,"us":18,"id":6,"ptr":536879104,"by":"thread","name":null,"field":16,"info":[7,0,0,0]}',
+  '{"key":"9007199254740992","ticks":0,"us":0,"id":5,"ptr":536875008,"by":"thread","name":"pump","gone":false,"field":16,"info":[1,2,3,4]}',
+  '{"key":"9007199254740993","ticks":56,"us":18,"id":1025,"ptr":4294967295,"by":"isr","name":"pump","gone":false,"field":536875008,"info":[0,0,0,0]}',
+  '{"key":"9007199254740994","ticks":56,"us":18,"id":6,"ptr":536879104,"by":"thread","name":null,"gone":false,"field":16,"info":[7,0,0,0]}',
 ];
 
 /** A line in which each member is the text given, or a sound one. */
 function line(members = {}) {
-  const sound = { key: "7", ticks: "0", us: "0", id: "5", ptr: "536875008", by: '"thread"', name: '"pump"', field: "16", info: "[1,2,3,4]" };
+  const sound = {
+    key: "7", ticks: "0", us: "0", id: "5", ptr: "536875008", by: '"thread"', name: '"pump"', gone: "false", field: "16", info: "[1,2,3,4]",
+  };
   const texts = Object.entries({ ...sound, ...members }).map(([member, text]) => `"${member}":${text}`);
   return `{${texts.join(",")}}`;
 }
@@ -33,7 +35,7 @@ function printed(event) {
   const name = event.name === null ? "null" : `"${event.name.replace(/["\\]|[^ -~]/g, escape)}"`;
   return line({
     key: number(event.key), ticks: number(event.ticks), us: number(event.us), id: number(event.id), ptr: number(event.ptr),
-    by: `"${event.by}"`, name, field: number(event.field), info: `[${event.info.map(number).join(",")}]`,
+    by: `"${event.by}"`, name, gone: `${event.gone}`, field: number(event.field), info: `[${event.info.map(number).join(",")}]`,
   });
 }
 
@@ -63,10 +65,11 @@ test("the three lines of the whole case", () => {
   assert.deepEqual(events.map((event) => event.key), [9007199254740992n, 9007199254740993n, 9007199254740994n]);
   assert.deepEqual(events[1], {
     key: 9007199254740993n, keyText: "9007199254740993", ticks: 56n, us: 18n, id: 1025, ptr: 4294967295,
-    by: "isr", name: "pump", field: 536875008, info: [0, 0, 0, 0],
+    by: "isr", name: "pump", gone: false, field: 536875008, info: [0, 0, 0, 0],
   });
   assert.equal(events[0].keyText, "9007199254740992");
   assert.equal(events[2].name, null);
+  assert.deepEqual(events.map((event) => event.gone), [false, false, false]);
   assert.deepEqual(events[0].info, [1, 2, 3, 4]);
   assert.deepEqual(DOCUMENT_LINES.map(readLine), events);
 });
@@ -74,6 +77,7 @@ test("the three lines of the whole case", () => {
 test("an event cannot be changed", () => {
   const event = readLine(DOCUMENT_LINES[0]);
   assert.throws(() => { event.key = 1n; }, TypeError);
+  assert.throws(() => { event.gone = true; }, TypeError);
   assert.throws(() => { event.info[0] = 9; }, TypeError);
 });
 
@@ -194,6 +198,52 @@ test("the context is that of the pointer, and init has no name", () => {
   for (const by of ['"isr"', '"init"', '"Thread"', "null", "thread"]) refuses(line({ by }), /expected ,"by":"thread"/);
 });
 
+test("a name is gone or not, and only a name is", () => {
+  for (const name of ['"pump"', '""', '"null"', '"A\\"\\u000a"']) {
+    assert.equal(readLine(line({ name, gone: "true" })).gone, true);
+    assert.equal(readLine(line({ name, gone: "false" })).gone, false);
+  }
+  const interrupt = { ptr: "4294967295", by: '"isr"' };
+  const init = { ptr: "4042322160", by: '"init"', name: "null" };
+  assert.equal(readLine(line({ ...interrupt, gone: "true" })).gone, true);
+  for (const nameless of [{ name: "null" }, { ...interrupt, name: "null" }, init]) {
+    assert.equal(readLine(line({ ...nameless, gone: "false" })).gone, false);
+    const text = line({ ...nameless, gone: "true" });
+    refuses(text, /there is no name, so none is gone: expected false/, columnOf(text, "true"));
+  }
+  refuses(line({ ...init, name: '"pump"', gone: "true" }), /init event has no name/);
+});
+
+test("every other form of gone is refused", () => {
+  const others = [
+    "0", "1", '"true"', '"false"', "'true'", "True", "False", "TRUE", "FALSE", "t", "f", "tru", "fals", "yes", "no", "null", "undefined", "{}", "[true]",
+    "!0", "\\u0074rue", " true", " false", "\ttrue", "\ufefftrue", "",
+  ];
+  for (const name of ['"pump"', "null"]) {
+    const place = columnOf(line({ name }), '"gone":') + 7;
+    for (const gone of others) refuses(line({ name, gone }), /expected true or false but found/, place);
+    for (const gone of ["false ", "falsey", "falsetrue", "false\r", "false\u0000"]) refuses(line({ name, gone }), /expected ,"field"/, place + 5);
+  }
+  for (const gone of ["true ", "trues", "truefalse", "true\t"]) refuses(line({ gone }), /expected ,"field"/);
+  for (const member of ['"Gone"', "gone", "'gone'", '"gone "', '"removed"']) refuses(line().replace('"gone"', member), /expected ,"gone":/);
+  refuses(line().replace('"gone":', '"gone" :'), /expected ,"gone":/);
+});
+
+test("gone stands behind the name, once", () => {
+  const lineWithout = (text) => text.replace(/,"gone":(?:true|false)/, "");
+  for (const gone of ["true", "false"]) {
+    const without = lineWithout(line({ gone }));
+    assert.equal(without.includes("gone"), false);
+    refuses(without, /expected ,"gone": but found ,"field":16/, columnOf(without, ',"field"'));
+    for (const before of [',"name"', ',"by"', ',"info"']) refuses(without.replace(before, `,"gone":${gone}${before}`), /expected ,"(?:gone|name|by)"/);
+    refuses(without.replace("]}", `],"gone":${gone}}`), /expected ,"gone":/);
+    refuses(without.replace("{", `{"gone":${gone},`), /expected {"key":/);
+    for (const again of ["true", "false"]) refuses(line({ gone: `${gone},"gone":${again}` }), /expected ,"field"/);
+  }
+  for (const each of DOCUMENT_LINES) refuses(lineWithout(each), /expected ,"gone":/);
+  refusesListing(listing(DOCUMENT_LINES[0], lineWithout(DOCUMENT_LINES[1])), 2, /expected ,"gone":/);
+});
+
 test("missing, repeated, reordered and extra members are refused", () => {
   const members = line().slice(1, -1).match(/"[a-z]+":(?:\[[^\]]*\]|[^,]*)/g);
   assert.equal(`{${members.join(",")}}`, line());
@@ -223,8 +273,11 @@ test("text before, after or between, another text, a cut line and no text at all
 });
 
 test("a line with one character changed, added or taken away is refused or says what it prints", () => {
-  const characters = '0159"\\,:{}[]-+.eEu nflaA\u0000\n\u007f\u00e9\u0660\uff11';
-  const lines = [...DOCUMENT_LINES, line({ name: '"A\\"\\u000a\\\\"', ticks: "9007199255", us: '"9007199255000000"' }), line({ ptr: "4042322160", by: '"init"', name: "null" })];
+  const characters = '0159"\\,:{}[]-+.eEu nflatrsA\u0000\n\u007f\u00e9\u0660\uff11';
+  const lines = [
+    ...DOCUMENT_LINES, line({ gone: "true" }), line({ ptr: "4042322160", by: '"init"', name: "null" }),
+    line({ name: '"A\\"\\u000a\\\\"', ticks: "9007199255", us: '"9007199255000000"' }),
+  ];
   let accepted = 0;
   const isRefusedOrSame = (text) => {
     try {
@@ -297,7 +350,8 @@ test("a refusal tells where the line stops being one of the listing", () => {
   place(line({ info: "[1,2,03,4]" }), "03", /leading zeros/);
   place(line({ by: '"isr"' }), ',"by"', /expected/);
   place(line({ name: '"pu\\n"' }), "\\n", /escape other than/);
-  place(line({ name: `"${"p".repeat(65)}"` }), 'p","field"', /longer than 64/);
+  place(line({ gone: "1" }), '1,"field"', /expected true or false/);
+  place(line({ name: `"${"p".repeat(65)}"` }), 'p","gone"', /longer than 64/);
   refusesListing(listingOfKeys("7", "8").slice(0, -1), 2, /cut off/, line().length + 1);
   refusesListing(listingOfKeys("7", "9"), 2, /go up by one/, 1);
   refusesListing(listing(line(), line({ key: "8", ticks: "1.0" })), 2, /not plain digits/, columnOf(line(), '0,"us"'));
@@ -314,6 +368,17 @@ test("a careless page sees one key for two events, and this reader does not", ()
     assert.equal(new Set(readListing(printed).map((event) => event.key)).size, 3);
     assert.equal(new Set(readListing(printed).map((event) => event.keyText)).size, 3);
   }
+});
+
+test("a page that parses the lines itself sees a boolean", () => {
+  for (const gone of [true, false]) {
+    const text = line({ gone: `${gone}` });
+    assert.equal(JSON.parse(text).gone, gone);
+    assert.equal(readLine(text).gone, gone);
+  }
+  for (const each of DOCUMENT_LINES) assert.equal(JSON.parse(each).gone, false);
+  // In quotes either word would count as true.
+  assert.ok(JSON.parse(line({ gone: '"false"' })).gone);
 });
 
 test("a page that compares loosely takes no bare key for a quoted one", () => {
@@ -344,6 +409,7 @@ test("every line of the corpus is read, under the peer's key", () => {
   const peer = peerKeys();
   assert.equal(lines.length, peer.length);
   const ofListings = new Map();
+  const names = new Set();
   lines.forEach((each, index) => {
     const [kind, keyText] = peer[index];
     const event = readLine(each);
@@ -351,12 +417,14 @@ test("every line of the corpus is read, under the peer's key", () => {
     assert.equal(event.keyText, keyText, `line ${index + 1} of the corpus`);
     assert.equal(event.key, BigInt(keyText));
     assert.equal(printed(event), each);
+    names.add(event.name === null ? "none" : event.gone ? "gone" : "live");
     if (kind !== "a") return;
     assert.ok(!ofListings.has(event.key), `the key ${keyText} comes twice`);
     ofListings.set(event.key, each.startsWith('{"key":"') ? "quoted" : "bare");
   });
   assert.ok(ofListings.size >= FEWEST_CORPUS_KEYS, `only ${ofListings.size} keys of whole listings`);
   assert.deepEqual([...new Set(ofListings.values())].sort(), ["bare", "quoted"]);
+  assert.deepEqual([...names].sort(), ["gone", "live", "none"]);
 });
 
 test("every whole listing of the corpus is read as one and prints back", () => {

@@ -28,6 +28,7 @@ function recordJob() {
 const jobs = {
   "listing-full": (folder, way) => listingJob(folder, "full", way),
   "listing-names": (folder, way) => listingJob(folder, "names", way),
+  "listing-gone": (folder, way) => listingJob(folder, "gone", way),
   check(folder) {
     const bytes = readFileSync(`${folder}/full.dump`);
     return { call: () => check(bytes).events, calls: 20, parts: 1, answer: (events) => `${events}\n` };

@@ -1,5 +1,5 @@
 // Lines written by JSON.stringify of an object for each event; the same text while names are plain ASCII.
-import { check, checkReading, keys, LIMIT, microseconds, readNames } from "./trace.mjs";
+import { check, checkReading, keys, LIMIT, microseconds, NAMELESS, readNames } from "./trace.mjs";
 
 const asIs = (name) => name;
 /** A large number becomes a string, which gets its quotes later. */
@@ -22,11 +22,11 @@ export function listing(bytes, reading) {
     const ptr = word(0);
     const field = word(4);
     const by = ptr === 0xffffffff ? "isr" : ptr === 0xf0f0f0f0 ? "init" : "thread";
-    const name = by === "init" ? null : names.get(by === "isr" ? field : ptr) ?? null;
+    const { name, gone } = by === "init" ? NAMELESS : names.get(by === "isr" ? field : ptr) ?? NAMELESS;
     const key = keyAt(position);
     const us = microseconds(ticks, reading.rate, value);
     const info = [word(16), word(20), word(24), word(28)];
-    lines.push(JSON.stringify({ key, ticks, us, id: word(8), ptr, by, name, field, info }), "\n");
+    lines.push(JSON.stringify({ key, ticks, us, id: word(8), ptr, by, name, gone, field, info }), "\n");
     at = at + 32 === end ? start : at + 32;
   }
   return lines.join("");

@@ -1,5 +1,5 @@
-// Lines written by template literals, to the letter as document 01 has them.
-import { check, checkReading, keys, LIMIT, microseconds, readNames } from "./trace.mjs";
+// Lines written by template literals, to the letter as the documents have them.
+import { check, checkReading, keys, LIMIT, microseconds, NAMELESS, readNames } from "./trace.mjs";
 
 const ESCAPED = /["\\]|[^ -~]/g;
 const escape = (character) =>
@@ -25,9 +25,9 @@ export function listing(bytes, reading) {
     const pointer = word(0);
     const field = word(4);
     const by = pointer === 0xffffffff ? "isr" : pointer === 0xf0f0f0f0 ? "init" : "thread";
-    const name = by === "init" ? null : names.get(by === "isr" ? field : pointer) ?? null;
+    const { name, gone } = by === "init" ? NAMELESS : names.get(by === "isr" ? field : pointer) ?? NAMELESS;
     const us = microseconds(ticks, reading.rate, printed);
-    lines.push(`{"key":${key(position)},"ticks":${ticks},"us":${us},"id":${word(8)},"ptr":${pointer},"by":"${by}","name":${name},"field":${field},"info":[${word(16)},${word(20)},${word(24)},${word(28)}]}\n`);
+    lines.push(`{"key":${key(position)},"ticks":${ticks},"us":${us},"id":${word(8)},"ptr":${pointer},"by":"${by}","name":${name},"gone":${gone},"field":${field},"info":[${word(16)},${word(20)},${word(24)},${word(28)}]}\n`);
     at = at + 32 === end ? start : at + 32;
   }
   return lines.join("");

@@ -81,13 +81,19 @@ export function checkReading({ rate, unit, serial }, events) {
   if (unit >= 2 ** 24 || serial + events > 2 ** 40) throw new Refused(15);
 }
 
-/** Each thread's name by its pointer, as written by the function given; the lowest entry counts. */
+/** What a line says where no thread has the pointer. */
+export const NAMELESS = { name: null, gone: false };
+
+/** Each thread's name by its pointer, as written by the function given; the lowest live entry counts, or else the lowest that is gone. */
 export function readNames({ bytes, view, little, entrySize, start }, written) {
   const names = new Map();
   for (let at = 48; at < start; at += entrySize) {
+    if (bytes[at + 1] !== 1) continue;
     const pointer = view.getUint32(at + 4, little);
-    if (bytes[at] === 1 || bytes[at + 1] !== 1 || names.has(pointer)) continue;
-    names.set(pointer, written(bytes.toString("latin1", at + 16, at + entrySize).split("\0", 1)[0]));
+    const gone = bytes[at] === 1;
+    const known = names.get(pointer);
+    if (known !== undefined && (gone || !known.gone)) continue;
+    names.set(pointer, { name: written(bytes.toString("latin1", at + 16, at + entrySize).split("\0", 1)[0]), gone });
   }
   return names;
 }

@@ -1,6 +1,6 @@
 //! The baselines in Rust do all that documents 01 and 02 ask: they give what the peer gives, refusals too.
 
-use crate::competitors::refused_by_peer;
+use crate::competitors::{named_by_peer, refused_by_peer};
 use crate::feeders::{by_hand, by_hand_by_value, by_library};
 use crate::files::agreed_mending;
 use crate::plain::check::check;
@@ -8,6 +8,7 @@ use crate::plain::find::find_name;
 use crate::plain::record::record;
 use crate::plain::units::split;
 use crate::with_itoa;
+use lepsaino::Name;
 use peer::call::Call;
 use peer::generate::chance::Chance;
 use peer::generate::Generator;
@@ -57,10 +58,11 @@ fn cut<'a>(mut rest: &'a [u8], chance: &mut Chance) -> Vec<&'a [u8]> {
     pieces
 }
 
-/// The same bytes at the same place.
+/// The same bytes at the same place, of a thread that is live or gone in both.
 fn compare_name(dump: &[u8], pointer: u32) {
-    let given = find_name(dump, pointer).map(|name| name.map(<[u8]>::as_ptr_range));
-    let expected = peer::find_name(dump, pointer).map(|name| name.map(<[u8]>::as_ptr_range));
+    let place = |name: Option<Name>| name.map(|name| (name.bytes.as_ptr_range(), name.gone));
+    let given = find_name(dump, pointer).map(place);
+    let expected = peer::find_name(dump, pointer).map(|name| place(name.map(named_by_peer)));
     assert_eq!(given, expected.map_err(refused_by_peer));
 }
 

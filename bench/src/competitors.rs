@@ -3,7 +3,7 @@
 use crate::contest::opaque;
 use crate::plain::{called, check, find, mend, record, Refusal};
 use crate::{with_itoa, with_serde};
-use lepsaino::{Mended, Reading, Slot};
+use lepsaino::{Mended, Name, Reading, Slot};
 
 /// Room for any listing.
 const ROOM: usize = 1_600_000;
@@ -13,8 +13,8 @@ pub type Lister = fn(&[u8], Reading, &mut Vec<u8>) -> usize;
 pub type Printer = fn(&[u64], &mut Vec<u8>) -> usize;
 /// Gives the number of events.
 pub type Checker = fn(&[u8]) -> Result<usize, Refusal>;
-/// Gives the name that belongs to the pointer.
-pub type Finder = fn(&[u8], u32) -> Result<Option<&[u8]>, Refusal>;
+/// Gives the name that belongs to the pointer, and whether its thread is gone.
+pub type Finder = fn(&[u8], u32) -> Result<Option<Name<'_>>, Refusal>;
 /// Records so many events and gives the index of the last slot filled.
 pub type Recorder = fn(&mut [u8], u32) -> usize;
 /// Writes a mended copy of the dump into the other bytes.
@@ -98,7 +98,10 @@ pub const FINDERS: [(&str, Finder); 4] = [
         called::find_name(dump, pointer)
     }),
     ("peer", |dump, pointer| {
-        peer::find_name(dump, pointer).map_err(refused_by_peer)
+        match peer::find_name(dump, pointer) {
+            Ok(name) => Ok(name.map(named_by_peer)),
+            Err(refusal) => Err(refused_by_peer(refusal)),
+        }
     }),
 ];
 
@@ -145,6 +148,13 @@ pub fn refused(refusal: lepsaino::Refusal) -> Refusal {
 
 pub fn refused_by_peer(refusal: peer::Refusal) -> Refusal {
     (refusal.number, refusal.place)
+}
+
+pub fn named_by_peer(name: peer::Name<'_>) -> Name<'_> {
+    Name {
+        bytes: name.bytes,
+        gone: name.gone,
+    }
 }
 
 fn mended_by_peer(mended: peer::Mended) -> Mended {

@@ -11,6 +11,7 @@ pub const BIG: u32 = 1;
 pub const LARGEST: usize = 65_536;
 const BASE: u32 = 0x2000_0000;
 const FIRST_THREAD: u32 = BASE + 0x1000;
+const NAMED_THREADS: usize = 400;
 const KINDS: [&str; 8] = [
     "pump",
     "motor control",
@@ -143,22 +144,30 @@ pub fn half() -> Dump {
 
 /// 400 threads with names, each event another's than the one before, keys that are printed in quotes.
 pub fn with_names() -> Dump {
-    const THREADS: usize = 400;
-    let mut dump = Dump::formatted(LARGEST, LITTLE, 32, THREADS, 8_192);
-    for index in 0..THREADS {
+    let mut dump = Dump::formatted(LARGEST, LITTLE, 32, NAMED_THREADS, 8_192);
+    for index in 0..NAMED_THREADS {
         let name = format!("{} {}", KINDS[index % KINDS.len()], index);
         dump.register(thread(index), &name);
     }
     let mut stream = Stream::new();
     for turn in 0..dump.events + 500 {
-        let running = thread(turn % THREADS);
+        let running = thread(turn % NAMED_THREADS);
         let slot = match stream.chance.below(32) {
             0 => stream.event(INIT, 0),
             1..=4 => stream.event(ISR, running),
-            5..=6 => stream.thread(thread(THREADS + turn)),
+            5..=6 => stream.thread(thread(NAMED_THREADS + turn)),
             _ => stream.thread(running),
         };
         dump.record(slot);
+    }
+    dump
+}
+
+/// The same with every thread removed; their names are still there.
+pub fn with_gone() -> Dump {
+    let mut dump = with_names();
+    for index in 0..NAMED_THREADS {
+        lepsaino::remove(&mut dump.bytes, thread(index)).expect("a thread that is registered");
     }
     dump
 }

@@ -1,12 +1,12 @@
 //! Writes dumps and the library's answers into a folder, once every competitor in Rust has given the same.
 
 use crate::competitors::{Lister, CHECKERS, FINDERS, MENDERS, PRINTERS, RECORDERS};
-use crate::dumps::{full, with_names, Dump, LARGEST, LITTLE};
+use crate::dumps::{full, with_gone, with_names, Dump, LARGEST, LITTLE};
 use crate::feeders::FEEDERS;
 use crate::jobs::{Job, Work, JOBS, RECORDED};
 use crate::numbers::fixed;
 use crate::plain::Refusal;
-use lepsaino::Mended;
+use lepsaino::{Mended, Name};
 use std::io;
 use std::path::Path;
 
@@ -14,6 +14,7 @@ pub fn write(folder: &Path) -> io::Result<()> {
     std::fs::create_dir_all(folder)?;
     write_dump(folder, "full", &full(LITTLE))?;
     write_dump(folder, "names", &with_names())?;
+    write_dump(folder, "gone", &with_gone())?;
     for job in JOBS {
         std::fs::write(folder.join(format!("{}.answer", job.name)), answer(&job))?;
     }
@@ -33,7 +34,7 @@ fn answer(job: &Job) -> Vec<u8> {
         Work::List(listers) => agreed_listing(&dump, listers),
         Work::Check(expected) => checked(&dump, expected),
         Work::Feed(length, expected) => fed(&dump, length, expected),
-        Work::Find(pointer, expected) => found(&dump, pointer, expected).to_vec(),
+        Work::Find(pointer, expected) => found(&dump, pointer, expected),
         Work::Record => recorded(&dump),
         Work::Mend(expected) => mended(&dump, expected),
     }
@@ -66,10 +67,10 @@ fn verdict(answer: Result<usize, Refusal>) -> Vec<u8> {
     }
 }
 
-fn found<'a>(dump: &'a Dump, pointer: u32, expected: &[u8]) -> &'a [u8] {
+fn found(dump: &Dump, pointer: u32, expected: Name) -> Vec<u8> {
     let answer = agreed(FINDERS.map(|(name, find)| (name, find(&dump.bytes, pointer))));
     assert_eq!(answer, Ok(Some(expected)));
-    answer.unwrap().unwrap()
+    expected.bytes.to_vec()
 }
 
 fn recorded(dump: &Dump) -> Vec<u8> {

@@ -4,12 +4,12 @@ use crate::competitors::{Checker, Finder, Lister, Mender, Printer, Reader, Recor
 use crate::competitors::{CHECKERS, COPIER, FINDERS, LISTERS, MENDERS, PRINTERS, READERS};
 use crate::competitors::{RECORDERS, ROOMS};
 use crate::contest::{contest, opaque, Competitor, Measure};
-use crate::dumps::{empty, full, half, thread, with_entries, with_names, without_id};
+use crate::dumps::{empty, full, half, thread, with_entries, with_gone, with_names, without_id};
 use crate::dumps::{Dump, BIG, LARGEST, LITTLE};
 use crate::feeders::{Feeder, FEEDERS};
 use crate::numbers::fixed;
 use crate::plain::Refusal;
-use lepsaino::Mended;
+use lepsaino::{Mended, Name};
 
 /// How many events are recorded in a call where recording is timed.
 pub const RECORDED: u32 = 1_000_000;
@@ -20,7 +20,7 @@ pub enum Work {
     List(&'static [(&'static str, Lister)]),
     Check(Result<usize, Refusal>),
     Feed(usize, Result<usize, Refusal>),
-    Find(u32, &'static [u8]),
+    Find(u32, Name<'static>),
     Record,
     Mend(Mended),
 }
@@ -32,11 +32,12 @@ pub struct Job {
 }
 
 /// All but the numbers, which have no dump.
-pub const JOBS: [Job; 18] = [
+pub const JOBS: [Job; 19] = [
     job("listing-full", || full(LITTLE), Work::List(&LISTERS)),
     job("listing-big", || full(BIG), Work::List(&LISTERS)),
     job("listing-exact", || full(LITTLE), Work::List(&ROOMS)),
     job("listing-names", with_names, Work::List(&LISTERS)),
+    job("listing-gone", with_gone, Work::List(&LISTERS)),
     job("check", || full(LITTLE), Work::Check(Ok(2_046))),
     job("check-big", || full(BIG), Work::Check(Ok(2_046))),
     job("check-entries", with_entries, Work::Check(Ok(1_109))),
@@ -52,11 +53,7 @@ pub const JOBS: [Job; 18] = [
     ),
     job("pieces-1024", || full(LITTLE), Work::Feed(1_024, Ok(2_046))),
     job("pieces-1", || full(LITTLE), Work::Feed(1, Ok(2_046))),
-    job(
-        "find-last",
-        with_entries,
-        Work::Find(thread(1_499), b"1499"),
-    ),
+    job("find-last", with_entries, Work::Find(thread(1_499), LAST)),
     job("record", || empty(LITTLE), Work::Record),
     job("record-big", || empty(BIG), Work::Record),
     job("mend", || full(LITTLE), Work::Mend(SOUND)),
@@ -64,6 +61,12 @@ pub const JOBS: [Job; 18] = [
     job("mend-cut", half, Work::Mend(CUT)),
     job("mend-entries", with_entries, Work::Mend(SOUND_ENTRIES)),
 ];
+
+/// The last of 1,500 names.
+const LAST: Name = Name {
+    bytes: b"1499",
+    gone: false,
+};
 
 /// Nothing was mended.
 const SOUND: Mended = Mended {
@@ -166,7 +169,7 @@ fn finder<'a>(
 ) -> Competitor<'a> {
     let call = move || {
         let name = find(opaque(&dump.bytes), opaque(pointer)).unwrap();
-        name.unwrap().len() as u64
+        name.unwrap().bytes.len() as u64
     };
     Competitor::new(name, call)
 }

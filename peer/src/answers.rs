@@ -12,13 +12,15 @@ use crate::mend::{mend, Mended};
 use crate::record::record;
 use crate::refusal::Refusal;
 use crate::register::register;
+use crate::registry::Name;
 use crate::remove::remove;
 
-/// A name's bytes and its offset in the dump.
+/// A name's bytes, its offset in the dump, and whether its thread is gone.
 #[derive(Clone, Debug, PartialEq, Eq)]
 pub struct FoundName {
     pub bytes: Vec<u8>,
     pub at: usize,
+    pub gone: bool,
 }
 
 #[derive(Clone, Debug, PartialEq, Eq)]
@@ -155,9 +157,10 @@ fn event_answer(dump: &[u8], event: &Event) -> EventAnswer {
 }
 
 /// The name is a part of the dump, so the two addresses tell where.
-fn found_name(dump: &[u8], name: &[u8]) -> FoundName {
+fn found_name(dump: &[u8], name: Name) -> FoundName {
     FoundName {
-        bytes: name.to_vec(),
-        at: name.as_ptr() as usize - dump.as_ptr() as usize,
+        bytes: name.bytes.to_vec(),
+        at: name.bytes.as_ptr() as usize - dump.as_ptr() as usize,
+        gone: name.gone,
     }
 }

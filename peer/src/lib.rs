@@ -1,4 +1,4 @@
-//! Reads and writes ThreadX trace buffers as document 01 says, with requests A1 to A3 of document 02: a second, independent writing of the rules.
+//! Reads and writes ThreadX trace buffers as document 01 says, with requests A1 to A3 and A5 of document 02: a second, independent writing of the rules.
 #![forbid(unsafe_code)]
 
 pub mod answers;
@@ -42,4 +42,5 @@ pub use reading::Reading;
 pub use record::record;
 pub use refusal::Refusal;
 pub use register::{register, Object};
+pub use registry::Name;
 pub use remove::remove;

@@ -97,17 +97,25 @@ fn print_event(event: &EventAnswer, printed: &mut Vec<u8>) {
         printed,
         &format!("{} {} ", event.ticks, event.context.text()),
     );
-    push_name(printed, event.name.as_ref().map(|name| &name.bytes[..]));
+    print_text_and_kind(event.name.as_ref(), printed);
     printed.push(b'\n');
 }
 
 fn print_name(name: Option<&FoundName>, printed: &mut Vec<u8>) {
-    push_name(printed, name.map(|name| &name.bytes[..]));
+    print_text_and_kind(name, printed);
     let after = match name {
         Some(name) => format!(" {} {}\n", name.bytes.len(), name.at),
         None => " 0\n".to_string(),
     };
     push_text(printed, &after);
+}
+
+/// The name's text as in a line; behind it, where there is a name, whether its thread is live or gone.
+fn print_text_and_kind(name: Option<&FoundName>, printed: &mut Vec<u8>) {
+    push_name(printed, name.map(|name| &name.bytes[..]));
+    if let Some(name) = name {
+        push_text(printed, if name.gone { " gone" } else { " live" });
+    }
 }
 
 fn print_bytes(bytes: &[u8], printed: &mut Vec<u8>) {

@@ -1,4 +1,4 @@
-//! Document 01's whole case, its first key in quotes as 02 asks, and both sides of each line.
+//! Document 01's whole case, with the key in quotes and the "gone" that 02 asks for, and both sides of each line.
 
 use peer::*;
 
@@ -67,9 +67,9 @@ fn whole_case(order: ByteOrder) -> Vec<u8> {
 }
 
 const LINES: [&str; 3] = [
-    r#"{"key":"9007199254740992","ticks":0,"us":0,"id":5,"ptr":536875008,"by":"thread","name":"pump","field":16,"info":[1,2,3,4]}"#,
-    r#"{"key":"9007199254740993","ticks":56,"us":18,"id":1025,"ptr":4294967295,"by":"isr","name":"pump","field":536875008,"info":[0,0,0,0]}"#,
-    r#"{"key":"9007199254740994","ticks":56,"us":18,"id":6,"ptr":536879104,"by":"thread","name":null,"field":16,"info":[7,0,0,0]}"#,
+    r#"{"key":"9007199254740992","ticks":0,"us":0,"id":5,"ptr":536875008,"by":"thread","name":"pump","gone":false,"field":16,"info":[1,2,3,4]}"#,
+    r#"{"key":"9007199254740993","ticks":56,"us":18,"id":1025,"ptr":4294967295,"by":"isr","name":"pump","gone":false,"field":536875008,"info":[0,0,0,0]}"#,
+    r#"{"key":"9007199254740994","ticks":56,"us":18,"id":6,"ptr":536879104,"by":"thread","name":null,"gone":false,"field":16,"info":[7,0,0,0]}"#,
 ];
 
 #[test]
@@ -90,6 +90,23 @@ fn the_whole_case() {
             assert_eq!(output, format!("{}\n..", expected).into_bytes());
             assert_eq!(length, expected.len() + 1);
         }
+    }
+}
+
+#[test]
+fn the_whole_case_after_its_thread_was_removed() {
+    let reading = Reading::new(3_000_000, 8192, 0);
+    let named = r#""name":"pump","gone":false"#;
+    let gone = r#""name":"pump","gone":true"#;
+    let expected: String = LINES
+        .iter()
+        .map(|line| format!("{}\n", line.replace(named, gone)))
+        .collect();
+    assert_eq!(expected.matches(gone).count(), 2);
+    for order in [ByteOrder::Little, ByteOrder::Big] {
+        let mut buffer = whole_case(order);
+        assert_eq!(remove(&mut buffer, 0x2000_1000), Ok(0));
+        assert_eq!(text_of(&buffer, &reading).unwrap(), expected);
     }
 }
 
@@ -210,10 +227,11 @@ fn name_bytes() {
     register(&mut buffer, &thread(&[0x41, 0x22, 0x0A])).unwrap();
     let text = text_of(&buffer, &Reading::new(1, 0, 0)).unwrap();
     assert!(text.contains(r#""name":"A\"\u000a","#));
-    assert_eq!(
-        find_name(&buffer, 0x2000_1000),
-        Ok(Some(&[0x41, 0x22, 0x0A][..]))
-    );
+    let name = Name {
+        bytes: &[0x41, 0x22, 0x0A],
+        gone: false,
+    };
+    assert_eq!(find_name(&buffer, 0x2000_1000), Ok(Some(name)));
     assert_eq!(find_name(&buffer, 0x2000_1001), Ok(None));
 }
 

@@ -1,4 +1,4 @@
-//! Generated cases: no call panics, a refusal alters nothing, and a listing is its lines one after the other.
+//! Generated cases: no call panics, a refusal alters nothing, a listing is its lines one after the other, and an event has the name that is found.
 
 use peer::answers::{answer, Reply};
 use peer::call::Call;
@@ -53,6 +53,28 @@ fn lines(dump: &[u8], reading: &Reading) -> Vec<u8> {
         text.extend_from_slice(&output[..length]);
     }
     text
+}
+
+/// For the pointer of a thread's event or the field of an isr event; an init event has none.
+#[test]
+fn an_event_has_the_name_that_is_found() {
+    let mut generator = Generator::new(9);
+    let mut gone = 0;
+    for _ in 0..2_000 {
+        let dump = generator.next_case().buffer();
+        let events = check(&dump).map_or(0, |summary| summary.events);
+        for position in 0..events.min(20) {
+            let event = event(&dump, position).unwrap();
+            let name = match event.context {
+                Context::Init => None,
+                Context::Isr => find_name(&dump, event.field).unwrap(),
+                Context::Thread => find_name(&dump, event.pointer).unwrap(),
+            };
+            assert_eq!(event.name, name);
+            gone += usize::from(name.map_or(false, |name| name.gone));
+        }
+    }
+    assert!(gone > 100, "{} names of gone threads", gone);
 }
 
 #[test]

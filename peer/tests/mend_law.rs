@@ -98,13 +98,16 @@ impl<'a> Seen<'a> {
         ]
     }
 
-    /// The name of the lowest thread in use that has the pointer.
-    fn name(&self, pointer: u32) -> Option<&'a [u8]> {
-        let entries = self.entries();
-        let thread = |entry: &&&[u8]| entry[0] != 1 && entry[1] == 1;
-        let mut threads = entries.iter().filter(thread);
-        let found = threads.find(|entry| self.word(entry, 4) == pointer)?;
-        found[16..].split(|&byte| byte == 0).next()
+    /// The name of the first thread that has the pointer, those in use before those that are gone.
+    fn name(&self, pointer: u32) -> Option<Name<'a>> {
+        let mut threads = self.entries();
+        threads.retain(|entry| entry[1] == 1 && self.word(entry, 4) == pointer);
+        threads.sort_by_key(|entry| entry[0] == 1);
+        let found = threads.first()?;
+        Some(Name {
+            bytes: found[16..].split(|&byte| byte == 0).next()?,
+            gone: found[0] == 1,
+        })
     }
 
     fn pointers(&self) -> Vec<u32> {
@@ -213,7 +216,7 @@ fn same_events(seen: &Seen, copy: &[u8]) {
     }
 }
 
-/// Only threads have names, and their type is allowed.
+/// Only threads have names, live or gone, and their type is allowed.
 fn same_names(seen: &Seen, copy: &[u8]) {
     for pointer in seen.pointers().into_iter().take(20) {
         let name = find_name(copy, pointer).unwrap();

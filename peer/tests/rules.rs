@@ -25,6 +25,10 @@ fn object(kind: u8, pointer: u32, name: &[u8]) -> Object<'_> {
     }
 }
 
+fn live(bytes: &[u8]) -> Option<Name<'_>> {
+    Some(Name { bytes, gone: false })
+}
+
 fn refused<T>(number: u32, place: usize) -> Result<T, Refusal> {
     Err(Refusal { number, place })
 }
@@ -57,9 +61,8 @@ fn registering_and_removing() {
     assert_eq!(remove(&mut buffer, 7), Ok(0));
     assert_eq!(remove(&mut buffer, 7), refused(22, 0));
     assert_eq!(buffer[48..50], [1, 1]);
-    assert_eq!(find_name(&buffer, 7), Ok(None));
     assert_eq!(register(&mut buffer, &object(1, 9, b"")), Ok(0));
-    assert_eq!(find_name(&buffer, 9), Ok(Some(&b""[..])));
+    assert_eq!(find_name(&buffer, 9), Ok(live(b"")));
 }
 
 #[test]
@@ -113,8 +116,8 @@ fn context_decides_where_the_name_is_sought() {
     assert_eq!((seen[0].context, seen[0].name), (Context::Init, None));
     assert_eq!(
         (seen[1].context, seen[1].name),
-        (Context::Isr, Some(&b"one"[..]))
+        (Context::Isr, live(b"one"))
     );
     assert_eq!((seen[2].context, seen[2].name), (Context::Thread, None));
-    assert_eq!(find_name(&buffer, 0xF0F0_F0F0), Ok(Some(&b"one"[..])));
+    assert_eq!(find_name(&buffer, 0xF0F0_F0F0), Ok(live(b"one")));
 }

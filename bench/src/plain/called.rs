@@ -2,7 +2,7 @@
 
 use super::pieces::Pieces;
 use super::{check, find, mend, record, Refusal};
-use lepsaino::Mended;
+use lepsaino::{Mended, Name};
 
 #[inline(never)]
 pub fn check(dump: &[u8]) -> Result<usize, Refusal> {
@@ -27,7 +27,7 @@ pub fn finish(state: &Pieces) -> Result<usize, Refusal> {
 }
 
 #[inline(never)]
-pub fn find_name(dump: &[u8], pointer: u32) -> Result<Option<&[u8]>, Refusal> {
+pub fn find_name(dump: &[u8], pointer: u32) -> Result<Option<Name<'_>>, Refusal> {
     find::find_name(dump, pointer)
 }
 

@@ -20,7 +20,7 @@ use Rattle.mending.specs.Mending.{mendOf, mendedTold}
 use Rattle.pieces.specs.Pieces.{finished}
 use Rattle.rows.specs.Rows.{Accepted, Row, firstBroken}
 use Rattle.trace.specs.Check.{checkOf, checkedTold, headerNumbers, orderNumber}
-use Rattle.trace.specs.Names.{findName, foundTold, nameFound, nameNumbers}
+use Rattle.trace.specs.Names.{findName, foundTold, kindNumber, nameFound, nameNumbers}
 use Rattle.trace.specs.declared.Found.{Found}
 use Rattle.trace.specs.declared.Found.the-variants as found
 use Rattle.trace.specs.declared.Name.{Name}
@@ -102,7 +102,7 @@ order-back Big = refl
 order-back Little = refl
 
 pub structs : Structs
-unfolding checkAnswer eventAnswer nameAnswer listedAnswer outcomeAnswer mendAnswer checkedTold shownTold foundTold listedTold outcomeTold mendedTold headerNumbers eventNumbers slotNumbers nameNumbers
+unfolding checkAnswer eventAnswer nameAnswer listedAnswer outcomeAnswer mendAnswer checkedTold shownTold foundTold listedTold outcomeTold mendedTold headerNumbers eventNumbers slotNumbers kindNumber nameNumbers
 structs = record {
   answer = λ f. refl;
   name = λ f. refl;
@@ -111,7 +111,8 @@ structs = record {
   mend = λ f. refl;
   written = λ n. refl;
   done = λ n. refl;
-  named = λ at length. refl;
+  live = λ at length. refl;
+  gone = λ at length. refl;
   nameless = refl;
   sound = λ h n. refl;
   given = λ e. refl;
@@ -147,7 +148,7 @@ zero-accepts = record {
 told-within : (s : List ℕ) (name : Name) → LiesWithin name s → getD (nameNumbers name) 1 0 + getD (nameNumbers name) 2 0 ≤ length s
 unfolding nameNumbers
 told-within s Nameless within = within
-told-within s (Named at size) within = within
+told-within s (Named kind at size) within = within
 
 pub names-within : NamesWithin
 unfolding nameAnswer foundTold eventAnswer shownTold eventNumbers slotNumbers

@@ -81,6 +81,7 @@ library = record {
     «is_bad_type» = equation (λ κs a v w. refl);
     «is_out_of_turn» = equation (λ κs a v w. refl);
     «is_thread» = equation (λ κs a v w. refl);
+    «kind_at» = equation (λ κs a v w. refl);
     «lowest_entry» = equation (λ κs a v w. refl);
   };
   doubles = record {
@@ -113,6 +114,7 @@ library = record {
     «found_part» = record { asks-nothing = λ κs a. tt; one-answer = λ κs a p q. (one-part (p .allowed) (q .allowed), refl) };
     «name_part» = record { asks-nothing = λ κs a. tt; one-answer = λ κs a p q. (one-part (p .allowed) (q .allowed), refl) };
     «name_of» = equation (λ κs a v w. refl);
+    «entry_name» = equation (λ κs a v w. refl);
     «name_if_entry» = equation (λ κs a v w. refl);
     «length_to_zero» = equation (λ κs a v w. refl);
   };

@@ -32,6 +32,7 @@ use Rattle.trace.specs.declared.Checked.the-variants.{Sound}
 use Rattle.trace.specs.declared.Found.the-variants.{Searched}
 use Rattle.trace.specs.declared.Header.{Header}
 use Rattle.trace.specs.declared.Name.the-variants.{Named, Nameless}
+use Rattle.trace.specs.declared.ThreadKind.the-variants.{Gone, Live}
 use Rattle.trace.specs.declared.Slot.{Slot}
 use Rattle.words.specs.declared.Order.{Order}
 use Rattle.writing.specs.Writing.{formatting, recording, registering, removing, said}
@@ -134,7 +135,7 @@ pub record InterfaceRefuses : Type 0 where
 -- what the structs are: in a refusal the number, the place, and 0 for all else; in an acceptance what is given, each under its own name; and a byte order that was told is given back as that order
 pub record Structs : Type 0 where
   pub answer : (f : Refusal) → answerOf (toldRefusal f) ≡ record { refusal = f .number; place = f .place; value = 0 }
-  pub name : (f : Refusal) → nameAnswerOf (toldRefusal f) ≡ record { refusal = f .number; place = f .place; named = 0; at = 0; length = 0 }
+  pub name : (f : Refusal) → nameAnswerOf (toldRefusal f) ≡ record { refusal = f .number; place = f .place; kind = 0; at = 0; length = 0 }
   pub check : (f : Refusal)
       → checkAnswerOf (toldRefusal f)
       ≡ record {
@@ -160,7 +161,7 @@ pub record Structs : Type 0 where
         slot = record { pointer = 0; field = 0; id = 0; stamp = 0; first = 0; second = 0; third = 0; fourth = 0 };
         ticks = 0;
         context = 0;
-        named = 0;
+        «name_kind» = 0;
         «name_at» = 0;
         «name_length» = 0;
       }
@@ -169,8 +170,9 @@ pub record Structs : Type 0 where
       ≡ record { refusal = f .number; place = f .place; length = 0; missing = 0; current = 0; types = 0; ids = 0; packed = 0; moved = 0 }
   pub written : (n : ℕ) → listedAnswer (Written n) ≡ record { refusal = 0; place = 0; value = n }
   pub done : (n : ℕ) → outcomeAnswer (Done n) ≡ record { refusal = 0; place = 0; value = n }
-  pub named : (at length : ℕ) → nameAnswer (Searched (Named at length)) ≡ record { refusal = 0; place = 0; named = 1; at = at; length = length }
-  pub nameless : nameAnswer (Searched Nameless) ≡ record { refusal = 0; place = 0; named = 0; at = 0; length = 0 }
+  pub live : (at length : ℕ) → nameAnswer (Searched (Named Live at length)) ≡ record { refusal = 0; place = 0; kind = 1; at = at; length = length }
+  pub gone : (at length : ℕ) → nameAnswer (Searched (Named Gone at length)) ≡ record { refusal = 0; place = 0; kind = 2; at = at; length = length }
+  pub nameless : nameAnswer (Searched Nameless) ≡ record { refusal = 0; place = 0; kind = 0; at = 0; length = 0 }
   pub sound : (h : Header) (n : ℕ)
       → checkAnswer (Sound h n)
       ≡ record {
@@ -196,7 +198,7 @@ pub record Structs : Type 0 where
         slot = e .slot;
         ticks = e .ticks;
         context = contextNumber (e .by);
-        named = nameAnswer (Searched (e .name)) .named;
+        «name_kind» = nameAnswer (Searched (e .name)) .kind;
         «name_at» = nameAnswer (Searched (e .name)) .at;
         «name_length» = nameAnswer (Searched (e .name)) .length;
       }

@@ -66,6 +66,7 @@ pub record Dump : Type 0 where
   pub «is_bad_type» : Settled dump.«is_bad_type».ended dump.«is_bad_type».Reads.Asked dump.«is_bad_type».Reads.Learnt
   pub «is_out_of_turn» : Settled dump.«is_out_of_turn».ended dump.«is_out_of_turn».Reads.Asked dump.«is_out_of_turn».Reads.Learnt
   pub «is_thread» : Settled dump.«is_thread».ended dump.«is_thread».Reads.Asked dump.«is_thread».Reads.Learnt
+  pub «kind_at» : Settled dump.«kind_at».ended dump.«kind_at».Reads.Asked dump.«kind_at».Reads.Learnt
   pub «lowest_entry» : Settled dump.«lowest_entry».ended dump.«lowest_entry».Reads.Asked dump.«lowest_entry».Reads.Learnt
 
 pub record Doubles : Type 0 where
@@ -98,6 +99,7 @@ pub record Finder : Type 0 where
   pub «found_part» : SettledAs finder.«found_part».ended finder.«found_part».Reads.Asked finder.«found_part».Reads.Learnt (λ κs. unnamed)
   pub «name_part» : SettledAs finder.«name_part».ended finder.«name_part».Reads.Asked finder.«name_part».Reads.Learnt (λ κs. unnamed)
   pub «name_of» : Settled finder.«name_of».ended finder.«name_of».Reads.Asked finder.«name_of».Reads.Learnt
+  pub «entry_name» : Settled finder.«entry_name».ended finder.«entry_name».Reads.Asked finder.«entry_name».Reads.Learnt
   pub «name_if_entry» : Settled finder.«name_if_entry».ended finder.«name_if_entry».Reads.Asked finder.«name_if_entry».Reads.Learnt
   pub «length_to_zero» : Settled finder.«length_to_zero».ended finder.«length_to_zero».Reads.Asked finder.«length_to_zero».Reads.Learnt
 

@@ -1,6 +1,6 @@
 -- Each line is an object of RFC 8259 with the members of document 01: it is that of its parts.
 use Prim.Native.Nat.{ℕ, _+_, _*_, _<_}
-use mathlib.Core.Bool.{Bool, true, and-eq-true-iff, not, _&&_}
+use mathlib.Core.Bool.{Bool, true, false, and-eq-true-iff, not, _&&_}
 use mathlib.Core.List.{List, [], _∷_, map}
 use mathlib.Core.Option.{Option}
 use mathlib.Core.Path.{_≡_, refl, sym, ap, _∙_}
@@ -12,7 +12,7 @@ use lib.Seq.{getD-drop, getD-take}
 use borrow.Author.Tests.{eqb-false, not-true}
 use Rattle.events.specs.Events.{eventAt}
 use Rattle.events.specs.Listing.{fields, lineOf}
-use Rattle.text.specs.Lines.{context, line, numbersIn, objectText, parts, valueText}
+use Rattle.text.specs.Lines.{context, line, numbersIn, objectText, parts, truth, valueText}
 use Rattle.text.specs.Numbers.{quoted}
 use Rattle.text.specs.ReadBack.{IsName}
 use Rattle.text.specs.declared.Context.{Context}
@@ -24,7 +24,7 @@ use Rattle.trace.specs.declared.Name.the-variants.{Nameless, Named}
 use Rattle.words.specs.Each.{Each}
 use Rattle.words.specs.Words.{AreBytes}
 use Rattle.demands.specs.Json.{jsonText, object}
-use Rattle.demands.specs.JsonLines.{Distinct, IsObject, JsonLines, byText, lineMembers}
+use Rattle.demands.specs.JsonLines.{Distinct, IsObject, JsonLines, byText, goneText, lineMembers}
 use Rattle.demands.proofs.Json.{numbers-found, numbers-found-first}
 use Rattle.demands.proofs.JsonNumbers.{object-numbers}
 use Rattle.demands.proofs.JsonTexts.{NamedPart, members, members-are, members-written}
@@ -36,6 +36,11 @@ context-text Init = refl
 context-text Isr = refl
 context-text Thread = refl
 
+gone-text : (gone : Bool) → valueText (truth gone) ≡ goneText gone
+unfolding valueText
+gone-text true = refl
+gone-text false = refl
+
 line-object : (l : Line) (n : Option (List ℕ)) → IsName n → IsObject l n (line l n)
 unfolding line objectText jsonText parts valueText numbersIn
 line-object l n is =
@@ -46,7 +51,7 @@ line-object l n is =
     record {
       members = ms;
       is-text = rw text;
-      are = rw (← context-text (l .by)) (members-are (parts l n) plain are);
+      are = rw (← context-text (l .by), ← gone-text (l .gone)) (members-are (parts l n) plain are);
       numbers = sym (numbers-found (object ms)) ∙ rw text (object-numbers (parts l n) plain);
     }
 
@@ -79,7 +84,7 @@ part-bytes s at size bytes i = by (decLt i size)
 name-bytes : (s : List ℕ) (n : Name) → AreBytes s → IsName (nameBytes s n)
 unfolding nameBytes
 name-bytes s Nameless bytes = tt
-name-bytes s (Named at size) bytes = part-bytes s at size bytes
+name-bytes s (Named kind at size) bytes = part-bytes s at size bytes
 
 pub json-lines : JsonLines
 unfolding lineOf

@@ -9,7 +9,7 @@ use Rattle.events.specs.Events.{eventAt}
 use Rattle.events.specs.Listing.{fields, lineAt, lineOf, linesTo, listingText}
 use Rattle.events.specs.declared.Reading.{Reading}
 use Rattle.text.specs.Ascii.{choose}
-use Rattle.text.specs.Lines.{Part, Value, line, listed, named, numbersIn, numeric, objectText, partText, parts, separated, valueNumbers, valueText, word}
+use Rattle.text.specs.Lines.{Part, Value, line, listed, named, numbersIn, numeric, objectText, partText, parts, separated, truth, valueNumbers, valueText, word}
 use Rattle.text.specs.Names.{escape, escaped, hexDigit, name}
 use Rattle.text.specs.Numbers.{digits, isBare, number, quoted}
 use Rattle.text.specs.declared.Line.{Line}
@@ -19,7 +19,7 @@ use Rattle.trace.specs.Ring.{keep}
 use Rattle.trace.specs.Slots.{eventCount}
 use Rattle.trace.specs.declared.Header.{Header}
 use Rattle.words.specs.Each.{Each}
-use Rattle.demands.specs.Json.{null}
+use Rattle.demands.specs.Json as json
 use Rattle.demands.specs.JsonNumbers.{jsonNumbers, listedNumbers, numbersOf, numbersRead, numbersTo}
 use Rattle.demands.proofs.Json.{Has, Passed, braces, brackets, byte-passed, colon, comma, empty, followed, joined, literal-has, number-has, quotes, string-has, whole}
 use Rattle.demands.proofs.JsonTexts.{digits-number, part-text, plain-string}
@@ -57,7 +57,7 @@ escaped-passed (b ∷ bytes) rest = rw (append-assoc (escape b) (escaped bytes) 
 
 name-read : (n : Option (List ℕ)) → Has (name n) []
 unfolding name quoted
-name-read none = literal-has null
+name-read none = literal-has json.null
 name-read (some bytes) = quotes (escaped bytes) (escaped-passed bytes)
 
 -- values, parts, and a line
@@ -72,6 +72,8 @@ unfolding valueText keep
 value-read (numeric n) plain = number-read n
 value-read (named n) plain = name-read n
 value-read (word w) plain = string-has (plain-string plain)
+value-read (truth true) plain = literal-has json.true
+value-read (truth false) plain = literal-has json.false
 value-read (listed ns) plain = brackets (numbers-read ns)
 
 part-read : (p : Part) → PlainPart p → Has (partText p) (bare (valueNumbers (p .value)))

@@ -9,7 +9,7 @@ use native.Mathlib.Omega.{arith}
 use Rattle.text.proofs.Digits.{by-tenths, digits-more, digits-one}
 use Rattle.text.proofs.ReadBack.{digits-back}
 use Rattle.text.specs.Ascii.{ascii, choose}
-use Rattle.text.specs.Lines.{Part, Value, listed, named, numeric, partText, separated, valueText, word}
+use Rattle.text.specs.Lines.{Part, Value, listed, named, numeric, partText, separated, truth, valueText, word}
 use Rattle.text.specs.Names.{escape, escaped, hexDigit, name}
 use Rattle.text.specs.Numbers.{digit, digits, isBare, number, quoted}
 use Rattle.text.specs.ReadBack.{IsName, decimal, decimalAfter}
@@ -103,6 +103,7 @@ abbrev pub IsNamed : Value → Type 0
 IsNamed (numeric n) = Unit {0}
 IsNamed (named n) = IsName n
 IsNamed (word w) = Unit {0}
+IsNamed (truth b) = Unit {0}
 IsNamed (listed ns) = Unit {0}
 
 value-written : (v : Value) → All Plain (wordIn v) → IsNamed v → Written (valueText v)
@@ -110,6 +111,8 @@ unfolding valueText jsonText
 value-written (numeric n) plain is = number-written n
 value-written (named n) plain is = name-written n is
 value-written (word w) plain is = (json.string (plain-string plain), refl)
+value-written (truth true) plain is = (json.literal json.true, refl)
+value-written (truth false) plain is = (json.literal json.false, refl)
 value-written (listed ns) plain is = (json.array (numberValues ns), rw (numbers-written ns))
 
 -- so parts are members

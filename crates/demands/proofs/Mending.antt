@@ -32,7 +32,7 @@ use Rattle.trace.proofs.Passed.{registry-passed, slot-some}
 use Rattle.trace.proofs.SameBytes.{alike-slot}
 use Rattle.trace.specs.Check.{checkOf}
 use Rattle.trace.specs.Layout.{bufferEnd, bufferStart, currentSlot, headerOf, slotAt, slotCount, slotSize, withCurrent}
-use Rattle.trace.specs.Names.{findName, nameBytes, nameIfEntry, nameOf}
+use Rattle.trace.specs.Names.{findName, nameBytes, nameIfEntry, nameOf, threadName}
 use Rattle.trace.specs.Ring.{fromCurrent, keep, numbersFrom, oldestFirst, slotOf}
 use Rattle.trace.specs.Slots.{eventId, isAtFault, isFault, isUsed}
 use Rattle.trace.specs.Table.{layoutRows, row10, row12, row16}
@@ -160,7 +160,7 @@ module _ (s : List ℕ) (more : List Row) (passed : firstBroken (layoutRows (hea
   same-event p below k within = rw header-is (rw came-is at (copy-slot s h more passed p (rw count-is below) k within))
 
   names : (pointer : ℕ) → (findName t pointer ≡ Searched (nameOf s h pointer)) × (nameBytes t (nameOf s h pointer) ≡ nameBytes s (nameOf s h pointer))
-  unfolding findName nameOf nameIfEntry
+  unfolding findName nameOf nameIfEntry threadName
   names pointer =
       let same = copy-names s h more passed t room (registry-bytes s h more passed) pointer in
       (rw (registry-passed t (headerOf t) (copy-passes s more passed)) (ap Searched (ap (λ (f : Header). nameOf t f pointer) header-is ∙ same .0)), same .1)

@@ -1,15 +1,16 @@
--- A name is that of the lowest thread with the pointer; in a dump whose rows 1 to 11 have passed it lies within, as its entry does.
+-- A name is that of the lowest live thread with the pointer, or else of the lowest that is gone; in a dump whose rows 1 to 11 have passed it lies within, as its entry does.
 use Prim.Native.Nat.{ℕ, _+_, _≤_, _<_}
 use mathlib.Core.Bool.{Bool, true, false, cond, true≢false}
 use mathlib.Core.List.{List, [], _∷_}
 use mathlib.Core.Logic.{_⊎_, inl, inr, ⊎-elim}
-use mathlib.Core.Path.{_≡_, refl, sym, ap}
+use mathlib.Core.Path.{_≡_, refl, sym, ap, _∙_}
 use native.Mathlib.Decide.{decLt}
 use native.Mathlib.Omega.{arith}
-use borrow.Author.Tests.{eq-eqb, eqb-false, eqb-true, ltb-true, ne-eqb}
+use borrow.Author.Tests.{eq-eqb, eqb-false, eqb-true, ltb-true, ne-eqb, not-true}
 use lib.Dec.{ltb}
 use lib.ListN.{getD, length}
 use Rattle.events.specs.Events.{contextOf, eventAt, eventIn, eventOf, nameFor}
+use Rattle.events.specs.Listing.{fields}
 use Rattle.events.specs.declared.Event.{Event}
 use Rattle.events.specs.declared.Shown.{Shown}
 use Rattle.events.specs.declared.Shown.the-variants as shown
@@ -22,7 +23,7 @@ use Rattle.text.specs.declared.Context.the-variants.{Init, Isr, Thread}
 use Rattle.trace.proofs.Passed.{entry-within, registry-passed}
 use Rattle.trace.proofs.Threads.{thread-hit}
 use Rattle.trace.specs.Layout.{entryAt, entryCount, headerOf}
-use Rattle.trace.specs.Names.{entryName, findName, isNamed, isZeroAt, nameAt, nameFound, lengthToZero, nameIfEntry, nameOf, threadEntry}
+use Rattle.trace.specs.Names.{entryName, findName, isGone, isNamed, isZeroAt, nameAt, nameFound, lengthToZero, nameIfEntry, nameOf, orElse, threadEntry, threadName}
 use Rattle.trace.specs.Registry.{isWanted, isWantedAt}
 use Rattle.trace.specs.Slots.{eventCount}
 use Rattle.trace.specs.Table.{dumpRows, eventRows, registryRows, row25}
@@ -32,24 +33,30 @@ use Rattle.trace.specs.declared.Header.{Header}
 use Rattle.trace.specs.declared.Name.{Name}
 use Rattle.trace.specs.declared.Name.the-variants.{Named, Nameless}
 use Rattle.trace.specs.declared.Slot.{Slot}
+use Rattle.trace.specs.declared.ThreadKind.{ThreadKind}
+use Rattle.trace.specs.declared.ThreadKind.the-variants.{Gone, Live}
 use Rattle.trace.specs.declared.Wanted.the-variants as wanted
 use Rattle.demands.specs.Names.{Extends, IsThread, LiesWithin, Lowest, Names, nameShown}
 use Rattle.demands.proofs.Answers.{given-is, searched-is}
 
 module _ (s : List ℕ) (h : Header) where
   -- a search for a thread hits an entry that is one, and misses no such entry
-  hit-is : (pointer i : ℕ) → isWanted (wanted.Thread pointer) s h i ≡ true → IsThread s h pointer i
-  hit-is pointer i = thread-hit (h .order) s (entryAt h i) pointer
+  hit-is : (kind : ThreadKind) (pointer i : ℕ) → isWanted (wanted.Thread kind pointer) s h i ≡ true → IsThread kind s h pointer i
+  hit-is Live pointer i hit = thread-hit Live (h .order) s (entryAt h i) pointer hit
+  hit-is Gone pointer i hit =
+      let is = thread-hit Gone (h .order) s (entryAt h i) pointer hit in
+      (not-true _ (is .0), is .1, is .2)
 
-  missed : (pointer i : ℕ) → isWanted (wanted.Thread pointer) s h i ≡ false → IsThread s h pointer i → ⊥
+  missed : (kind : ThreadKind) (pointer i : ℕ) → isWanted (wanted.Thread kind pointer) s h i ≡ false → IsThread kind s h pointer i → ⊥
   unfolding isWantedAt
-  missed pointer i miss is = true≢false (rw (is .0, eq-eqb _ _ (is .1), eq-eqb _ _ (is .2)) at miss)
+  missed Live pointer i miss is = true≢false (rw (is .0, eq-eqb _ _ (is .1), eq-eqb _ _ (is .2)) at miss)
+  missed Gone pointer i miss is = true≢false (rw (is .0, eq-eqb _ _ (is .1), eq-eqb _ _ (is .2)) at miss)
 
-  lowest-is : (pointer : ℕ) → threadEntry s h pointer < entryCount h → Lowest s h pointer (threadEntry s h pointer)
-  lowest-is pointer below = record {
+  lowest-is : (kind : ThreadKind) (pointer : ℕ) → threadEntry kind s h pointer < entryCount h → Lowest kind s h pointer (threadEntry kind s h pointer)
+  lowest-is kind pointer below = record {
     below = below;
-    is = hit-is pointer (threadEntry s h pointer) (lowest-hit (isWanted (wanted.Thread pointer) s h) (entryCount h) below);
-    no-lower = λ j lower. missed pointer j (lowest-before (isWanted (wanted.Thread pointer) s h) (entryCount h) j lower);
+    is = hit-is kind pointer (threadEntry kind s h pointer) (lowest-hit (isWanted (wanted.Thread kind pointer) s h) (entryCount h) below);
+    no-lower = λ j lower. missed kind pointer j (lowest-before (isWanted (wanted.Thread kind pointer) s h) (entryCount h) j lower);
   }
 
   extends : (i : ℕ) → Extends s h i (nameAt h i) (lengthToZero s (nameAt h i) (h .«name_size»))
@@ -69,26 +76,60 @@ module _ (s : List ℕ) (h : Header) where
       by (yes short) = inr (short, eqb-true (getD s (nameAt h i + size) 0) 0 (lowest-hit zero-at (h .«name_size») short))
       by (no full) = inl (omega (arith, lowest-le zero-at (h .«name_size»)))
 
-  named : (pointer at size : ℕ) → nameOf s h pointer ≡ Named at size → (i : ℕ) × Lowest s h pointer i × Extends s h i at size
-  unfolding nameIfEntry nameOf
-  named pointer at size = by (ltb (threadEntry s h pointer) (entryCount h)) refl
-    where
-      by : (hit : Bool) → ltb (threadEntry s h pointer) (entryCount h) ≡ hit → cond hit (entryName s h (threadEntry s h pointer)) Nameless ≡ Named at size
-          → (i : ℕ) × Lowest s h pointer i × Extends s h i at size
-      by true below e =
-          let start : nameAt h (threadEntry s h pointer) ≡ at = cc in
-          let long : lengthToZero s (nameAt h (threadEntry s h pointer)) (h .«name_size») ≡ size = cc in
-          (threadEntry s h pointer, lowest-is pointer (ltb-true _ _ below), rw (← start, ← long) (extends (threadEntry s h pointer)))
-      by false none e = absurd (true≢false (ap isNamed (sym e)))
+  -- among the threads of a kind
+  module _ (kind : ThreadKind) (pointer : ℕ) where
+    named-of : (other : ThreadKind) (at size : ℕ) → threadName kind s h pointer ≡ Named other at size
+        → (other ≡ kind) × ((i : ℕ) × Lowest kind s h pointer i × Extends s h i at size)
+    unfolding nameIfEntry threadName
+    named-of other at size = by (ltb (threadEntry kind s h pointer) (entryCount h)) refl
+      where
+        by : (hit : Bool) → ltb (threadEntry kind s h pointer) (entryCount h) ≡ hit → cond hit (entryName kind s h (threadEntry kind s h pointer)) Nameless ≡ Named other at size
+            → (other ≡ kind) × ((i : ℕ) × Lowest kind s h pointer i × Extends s h i at size)
+        by true below e =
+            let same : other ≡ kind = cc in
+            let start : nameAt h (threadEntry kind s h pointer) ≡ at = cc in
+            let long : lengthToZero s (nameAt h (threadEntry kind s h pointer)) (h .«name_size») ≡ size = cc in
+            (same, (threadEntry kind s h pointer, lowest-is kind pointer (ltb-true _ _ below), rw (← start, ← long) (extends (threadEntry kind s h pointer))))
+        by false none e = absurd (true≢false (ap isNamed (sym e)))
 
-  nameless : (pointer : ℕ) → nameOf s h pointer ≡ Nameless → (i : ℕ) → i < entryCount h → IsThread s h pointer i → ⊥
-  unfolding nameIfEntry nameOf
-  nameless pointer = by (ltb (threadEntry s h pointer) (entryCount h)) refl
-    where
-      by : (hit : Bool) → ltb (threadEntry s h pointer) (entryCount h) ≡ hit → cond hit (entryName s h (threadEntry s h pointer)) Nameless ≡ Nameless
-          → (i : ℕ) → i < entryCount h → IsThread s h pointer i → ⊥
-      by true below e i inside is = true≢false (ap isNamed e)
-      by false none e i inside is = missed pointer i (none-hit (isWanted (wanted.Thread pointer) s h) (entryCount h) none i inside) is
+    nameless-of : threadName kind s h pointer ≡ Nameless → (i : ℕ) → i < entryCount h → IsThread kind s h pointer i → ⊥
+    unfolding nameIfEntry threadName
+    nameless-of = by (ltb (threadEntry kind s h pointer) (entryCount h)) refl
+      where
+        by : (hit : Bool) → ltb (threadEntry kind s h pointer) (entryCount h) ≡ hit → cond hit (entryName kind s h (threadEntry kind s h pointer)) Nameless ≡ Nameless
+            → (i : ℕ) → i < entryCount h → IsThread kind s h pointer i → ⊥
+        by true below e i inside is = true≢false (ap isNamed e)
+        by false none e i inside is = missed kind pointer i (none-hit (isWanted (wanted.Thread kind pointer) s h) (entryCount h) none i inside) is
+
+  -- and among all: by whether a live one has the pointer
+  module _ (pointer : ℕ) where
+    named : (kind : ThreadKind) (at size : ℕ) → nameOf s h pointer ≡ Named kind at size → (i : ℕ) × Lowest kind s h pointer i × Extends s h i at size
+    unfolding nameOf
+    named kind at size = by (threadName Live s h pointer) refl
+      where
+        by : (live : Name) → threadName Live s h pointer ≡ live → orElse live (threadName Gone s h pointer) ≡ Named kind at size → (i : ℕ) × Lowest kind s h pointer i × Extends s h i at size
+        by Nameless none e = let found = named-of Gone pointer kind at size e in rw (found .0) (found .1)
+        by (Named other start long) is e = let found = named-of Live pointer kind at size (is ∙ e) in rw (found .0) (found .1)
+
+    live-wins : (i : ℕ) → i < entryCount h → IsThread Live s h pointer i → (at : ℕ) × (size : ℕ) × (nameOf s h pointer ≡ Named Live at size)
+    unfolding nameOf
+    live-wins i below is = by (threadName Live s h pointer) refl
+      where
+        by : (live : Name) → threadName Live s h pointer ≡ live → (at : ℕ) × (size : ℕ) × (orElse live (threadName Gone s h pointer) ≡ Named Live at size)
+        by Nameless none = absurd (nameless-of Live pointer none i below is)
+        by (Named kind at size) found = (at, size, ap (λ (k : ThreadKind). Named k at size) (named-of Live pointer kind at size found .0))
+
+    gone-alone : (at size : ℕ) → nameOf s h pointer ≡ Named Gone at size → (i : ℕ) → i < entryCount h → IsThread Live s h pointer i → ⊥
+    gone-alone at size gone i below is = let (start, long, live) = live-wins i below is in true≢false (ap isGone (sym gone ∙ live))
+
+    nameless : nameOf s h pointer ≡ Nameless → (kind : ThreadKind) (i : ℕ) → i < entryCount h → IsThread kind s h pointer i → ⊥
+    unfolding nameOf
+    nameless = by (threadName Live s h pointer) refl
+      where
+        by : (live : Name) → threadName Live s h pointer ≡ live → orElse live (threadName Gone s h pointer) ≡ Nameless → (kind : ThreadKind) (i : ℕ) → i < entryCount h → IsThread kind s h pointer i → ⊥
+        by Nameless none e Live = nameless-of Live pointer none
+        by Nameless none e Gone = nameless-of Gone pointer e
+        by (Named other at size) is e kind = absurd (true≢false (ap isNamed e))
 
   module _ (passed : firstBroken (registryRows s h) ≡ Passed) where
     lies-within : (pointer : ℕ) → LiesWithin (nameOf s h pointer) s
@@ -96,8 +137,8 @@ module _ (s : List ℕ) (h : Header) where
       where
         by : (name : Name) → nameOf s h pointer ≡ name → LiesWithin name s
         by Nameless e = omega arith
-        by (Named at size) e =
-            let entry = named pointer at size e in
+        by (Named kind at size) e =
+            let entry = named pointer kind at size e in
             let most : size ≤ h .«name_size» = ⊎-elim (λ full. omega arith) (λ short. omega arith) (entry .2 .ends) in
             omega (arith, entry-within h (length s) _ passed (entry .0) (entry .1 .below), entry .2 .begins)
 
@@ -148,9 +189,11 @@ module _ (s : List ℕ) where
           rw (event-name (event .by) position event e refl) (by-context s h (registry-passed s h sound) (event .by) (event .slot))
 
   pub names : Names s
-  unfolding contextOf nameFor
+  unfolding contextOf fields nameFor
   names = record {
     named = named s h;
+    live-wins = live-wins s h;
+    gone-alone = gone-alone s h;
     nameless = nameless s h;
     searched = λ pointer name e. find-is pointer name e .1;
     within = find-within;
@@ -163,5 +206,8 @@ module _ (s : List ℕ) where
     thread-name = event-name Thread;
     isr-name = event-name Isr;
     init-name = event-name Init;
+    says-gone = λ r position e at size name. rw name;
+    says-live = λ r position e at size name. rw name;
+    says-none = λ r position e name. rw name;
     event-within = event-within;
   }

@@ -117,7 +117,7 @@ module _ (s t : List ℕ) (there : DifferOnlyThere s t) where
 
     names-same : (pointer : ℕ) → SameNamed s t (nameOf s (headerOf s) pointer) (nameOf t (headerOf s) pointer)
     names-same pointer =
-        names-agree s t (headerOf s) reach-same pointer (lowest-wanted s t (headerOf s) entries-same (Thread pointer)) (entries-same (threadEntry s (headerOf s) pointer))
+        names-agree s t (headerOf s) reach-same pointer (λ kind. lowest-wanted s t (headerOf s) entries-same (Thread kind pointer)) (λ kind. entries-same (threadEntry kind s (headerOf s) pointer))
 
     -- what the calls go by, of the headers that are read
     registry : RegistryKept s t

@@ -8,7 +8,7 @@ use native.Mathlib.Omega.{arith}
 use Rattle.events.specs.Listing.{lineAt, lineOf, linesTo, listingText}
 use Rattle.events.specs.declared.Reading.{Reading}
 use Rattle.text.specs.Ascii.{ascii, choose}
-use Rattle.text.specs.Lines.{Part, Value, line, listed, named, numeric, objectText, partText, parts, separated, valueText, word}
+use Rattle.text.specs.Lines.{Part, Value, line, listed, named, numeric, objectText, partText, parts, separated, truth, valueText, word}
 use Rattle.text.specs.Names.{escape, escaped, hexDigit, hexed, name}
 use Rattle.text.specs.Numbers.{digits, isBare, number, quoted}
 use Rattle.text.specs.declared.Line.{Line}
@@ -87,6 +87,8 @@ unfolding valueText
 value-unbroken (numeric n) plain = number-unbroken n
 value-unbroken (named n) plain = name-unbroken n
 value-unbroken (word w) plain = quoted-unbroken (plain-unbroken plain)
+value-unbroken (truth true) plain = unbroken (ascii "true") (omega arith)
+value-unbroken (truth false) plain = unbroken (ascii "false") (omega arith)
 value-unbroken (listed ns) plain = enclosed (omega arith) (omega arith) (numbers-unbroken ns)
 
 part-unbroken : (p : Part) → PlainPart p → Unbroken (partText p)

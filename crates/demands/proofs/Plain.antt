@@ -11,7 +11,7 @@ use lib.Dec.{eqb, leb, ltb}
 use borrow.Author.Tests.{eqb-false, leb-true, ltb-false, ltb-true, not-true}
 use Rattle.text.proofs.Digits.{by-tenths, digits-more, digits-one}
 use Rattle.text.proofs.Escapes.{by-kind, escape-high, escape-low}
-use Rattle.text.specs.Lines.{Part, Value, context, listed, named, numeric, parts, word}
+use Rattle.text.specs.Lines.{Part, Value, context, listed, named, numeric, parts, truth, word}
 use Rattle.text.specs.Names.{escape, hexDigit, hexed, slashed}
 use Rattle.text.specs.Numbers.{digit, digits}
 use Rattle.text.specs.declared.Context.{Context}
@@ -69,6 +69,7 @@ abbrev pub wordIn : Value → List ℕ
 wordIn (numeric n) = []
 wordIn (named n) = []
 wordIn (word w) = w
+wordIn (truth b) = []
 wordIn (listed ns) = []
 
 pub record PlainPart (p : Part) : Type 0 where

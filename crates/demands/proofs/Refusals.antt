@@ -129,7 +129,7 @@ some-value none = let clash : true ≡ false = cc in true≢false clash
 name-some : (name : Name) → nameNumbers name ≡ [] → ⊥
 unfolding nameNumbers
 name-some Nameless none = some-value none
-name-some (Named at length) none = some-value none
+name-some (Named kind at length) none = some-value none
 
 -- a number that is not 0 is that of a refusal
 told-refused : (v : Verdict) (values : List ℕ) → (toldBy v values .number ≡ 0 → ⊥) → (f : Refusal) × (v ≡ Refused f)

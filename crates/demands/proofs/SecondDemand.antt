@@ -16,7 +16,7 @@ use Rattle.demands.proofs.Patterns.{patterns}
 use Rattle.demands.proofs.Offsets.{offsets}
 use Rattle.demands.proofs.Texts.{texts}
 use Rattle.demands.proofs.Turns.{turns}
-use Rattle.demands.proofs.Writings.{formatting-makes, recording-leaves, registering-leaves, removing-leaves}
+use Rattle.demands.proofs.Writings.{formatting-makes, recording-leaves, registering-leaves, removing-leaves, reusing-leaves}
 
 pub second-demand : SecondDemand
 second-demand = record {
@@ -33,6 +33,7 @@ second-demand = record {
   records = recording-leaves;
   registers = registering-leaves;
   removes = removing-leaves;
+  reuses = reusing-leaves;
   gives = gives;
   listing = λ s r old new n. wrote _ _ old new n;
   line = λ s r position old new n. wrote _ _ old new n;

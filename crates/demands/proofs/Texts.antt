@@ -3,6 +3,7 @@ use mathlib.Core.Path.{refl}
 use Rattle.text.proofs.Filled.{line-some, name-some, number-some}
 use Rattle.text.proofs.Output.{is-put, not-put, zero-said}
 use Rattle.text.proofs.ReadBack.{name-back, names-differ, number-back, numbers-differ}
+use Rattle.text.proofs.Short.{bound-short, line-bound}
 use Rattle.demands.specs.Texts.{Texts}
 use Rattle.demands.proofs.JsonTexts.{digits-integer}
 
@@ -16,6 +17,8 @@ texts = record {
   number-some = number-some;
   name-some = name-some;
   line-some = line-some;
+  line-bound = line-bound;
+  bound-most = bound-short;
   zero-said = λ text old new filled put. zero-said text old filled put refl;
   no-room = λ text old new answer put long. not-put text old long put;
   room = λ text old new answer put fits. let whole = is-put text old fits put in (whole .count, whole .bytes);

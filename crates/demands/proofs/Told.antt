@@ -19,13 +19,14 @@ use Rattle.rows.specs.declared.Refusal.{Refusal}
 use Rattle.text.specs.declared.Context.{Context}
 use Rattle.text.specs.declared.Context.the-variants.{Init, Isr, Thread}
 use Rattle.trace.specs.Check.{checkedTold, headerNumbers, orderNumber}
-use Rattle.trace.specs.Names.{foundTold, nameNumbers}
+use Rattle.trace.specs.Names.{foundTold, kindNumber, nameNumbers}
 use Rattle.trace.specs.declared.Checked.{Checked}
 use Rattle.trace.specs.declared.Checked.the-variants as checked
 use Rattle.trace.specs.declared.Found.{Found}
 use Rattle.trace.specs.declared.Found.the-variants as found
 use Rattle.trace.specs.declared.Name.{Name}
 use Rattle.trace.specs.declared.Name.the-variants.{Named, Nameless}
+use Rattle.trace.specs.declared.ThreadKind.the-variants.{Gone, Live}
 use Rattle.words.specs.declared.Order.{Order}
 use Rattle.words.specs.declared.Order.the-variants.{Big, Little}
 use Rattle.writing.specs.Writing.{outcomeTold}
@@ -60,12 +61,13 @@ context-back Isr = refl
 context-back Thread = refl
 
 nameFrom : ℕ → ℕ → ℕ → Name
-nameFrom named at length = cond (eqb named 0) Nameless (Named at length)
+nameFrom kind at length = cond (eqb kind 0) Nameless (Named (cond (eqb kind 1) Live Gone) at length)
 
 name-back : (name : Name) → nameFrom (getD (nameNumbers name) 0 0) (getD (nameNumbers name) 1 0) (getD (nameNumbers name) 2 0) ≡ name
-unfolding nameNumbers nameFrom
+unfolding kindNumber nameNumbers nameFrom
 name-back Nameless = refl
-name-back (Named at length) = refl
+name-back (Named Live at length) = refl
+name-back (Named Gone at length) = refl
 
 checkedFrom : Told → Checked
 checkedFrom t = unless checked.Refused (λ t. checked.Sound (record {
@@ -90,10 +92,11 @@ foundFrom : Told → Found
 foundFrom t = unless found.Refused (λ t. found.Searched (nameFrom (valueAt t 0) (valueAt t 1) (valueAt t 2))) t (t .values)
 
 found-back : (x : Found) → foundFrom (foundTold x) ≡ x
-unfolding foundFrom foundTold nameNumbers nameFrom
+unfolding foundFrom foundTold kindNumber nameNumbers nameFrom
 found-back (found.Refused f) = refl
 found-back (found.Searched Nameless) = refl
-found-back (found.Searched (Named at length)) = refl
+found-back (found.Searched (Named Live at length)) = refl
+found-back (found.Searched (Named Gone at length)) = refl
 
 shownFrom : Told → Shown
 shownFrom t = unless shown.Refused (λ t. shown.Given (record {

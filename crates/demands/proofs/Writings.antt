@@ -8,15 +8,16 @@ use Rattle.trace.specs.Layout.{headerOf, currentSlot, slotCount, withCurrent}
 use Rattle.trace.specs.declared.Checked.the-variants.{Sound}
 use Rattle.trace.specs.declared.Header.{Header}
 use Rattle.trace.specs.declared.Slot.{Slot}
-use Rattle.writing.proofs.Fresh.{current-fresh, fresh-bytes, fresh-entries, fresh-free, fresh-header, fresh-leftover, fresh-most, fresh-one-each, fresh-slots, fresh-some, fresh-sound, fresh-size}
+use Rattle.writing.proofs.Fresh.{current-fresh, fresh-bytes, fresh-entries, fresh-free, fresh-header, fresh-leftover, fresh-most, fresh-nobody, fresh-one-each, fresh-slots, fresh-some, fresh-sound, fresh-size}
 use Rattle.writing.proofs.Recorded.{recorded-current, recorded-header, recorded-names, recorded-one-each, recorded-others, recorded-slot, recorded-sound, recorded-size, recorded-untouched}
-use Rattle.writing.proofs.Registered.{registered-bytes, registered-entry, registered-events, registered-found, registered-header, registered-one-each, registered-others, registered-sound, registered-size, registered-untouched, registered-in-use, registered-type}
-use Rattle.writing.proofs.Removed.{removed-events, removed-free, removed-gone, removed-header, removed-one-each, removed-others, removed-sound, removed-size, removed-untouched, removed-freed}
+use Rattle.writing.proofs.Registered.{registered-bytes, registered-entry, registered-events, registered-found, registered-header, registered-one-each, registered-others, registered-reused, registered-sound, registered-size, registered-untouched, registered-in-use, registered-type}
+use Rattle.writing.proofs.Removed.{removed-events, removed-free, removed-gone, removed-header, removed-one-each, removed-others, removed-still, removed-sound, removed-size, removed-untouched, removed-freed}
+use Rattle.writing.proofs.Reused.{reused-name}
 use Rattle.writing.specs.Arguments.{IsSlot}
 use Rattle.writing.specs.Writing.{formatting, freshEnd, freshHeader, left, nextPointer, recording, registering, removing}
 use Rattle.writing.specs.declared.Format.{Format}
 use Rattle.writing.specs.declared.Object.{Object}
-use Rattle.demands.specs.Writings.{Formatted, Recorded, Registered, Removed}
+use Rattle.demands.specs.Writings.{Formatted, Recorded, Registered, Removed, Reused}
 
 pub formatting-makes : (f : Format) (s : List ℕ) → f .base < 2 ^ 32 → Accepted (formatting f s .rows)
     → Formatted f s (left (formatting f s) s) (freshHeader f (freshEnd f (length s)))
@@ -33,6 +34,7 @@ formatting-makes f s base accepted = record {
   leftover = fresh-leftover f s accepted;
   size = fresh-size f s accepted;
   one-each = fresh-one-each f s accepted base;
+  nobody = fresh-nobody f s accepted base;
 }
 
 pub recording-leaves : (slot : Slot) (s : List ℕ) → IsSlot slot → Accepted (recording slot s .rows) → Recorded slot s (left (recording slot s) s) (headerOf s)
@@ -63,6 +65,7 @@ registering-leaves object name s word accepted = record {
   found = registered-found object name s accepted word;
   bytes = registered-bytes object name s accepted;
   others = registered-others object name s accepted word;
+  reused = λ sound pointer aside. registered-reused object name s accepted word pointer aside sound;
   events = registered-events object name s accepted;
   sound = registered-sound object name s accepted word;
   one-each = registered-one-each object name s accepted word;
@@ -73,7 +76,8 @@ removing-leaves pointer s accepted = record {
   size = removed-size pointer s accepted;
   untouched = removed-untouched pointer s accepted;
   header = removed-header pointer s accepted;
-  gone = removed-gone pointer s accepted;
+  gone = λ sound only. removed-gone pointer s accepted sound (only .0) (only .1);
+  still = removed-still pointer s accepted;
   freed = removed-freed pointer s accepted;
   free = removed-free pointer s accepted;
   others = removed-others pointer s accepted;
@@ -81,3 +85,7 @@ removing-leaves pointer s accepted = record {
   sound = removed-sound pointer s accepted;
   one-each = removed-one-each pointer s accepted;
 }
+
+pub reusing-leaves : (pointer : ℕ) (object : Object) (name s : List ℕ) → object .pointer < 2 ^ 32 → Accepted (removing pointer s .rows)
+    → Accepted (registering object name (left (removing pointer s) s) .rows) → Reused pointer object name s
+reusing-leaves pointer object name s word removed registered sound only = reused-name pointer object name s removed registered word sound (only .0) (only .1)

@@ -11,24 +11,30 @@ use Rattle.rows.specs.Rows.{Accepted}
 use Rattle.text.specs.Numbers.{digits, digitsIn}
 use Rattle.trace.proofs.Checks.{check-events, check-passed}
 use Rattle.trace.specs.Check.{checkOf, checkedTold}
-use Rattle.trace.specs.Layout.{headerOf, registryEnd, slotCount}
+use Rattle.trace.specs.Layout.{entryCount, headerOf, registryEnd, slotCount}
+use Rattle.trace.specs.Names.{findName, isNamed, nameFound, nameIfEntry, nameOf, threadName}
 use Rattle.trace.specs.Ring.{fromCurrent, keep, numbersFrom, oldestFirst}
-use Rattle.trace.specs.Table.{beforeEnds, row4}
+use Rattle.trace.specs.Table.{beforeEnds, registryRows, row4}
 use Rattle.trace.specs.Times.{microseconds, stampOf}
 use Rattle.trace.specs.declared.Checked.{Checked}
 use Rattle.trace.specs.declared.Checked.the-variants.{Refused, Sound}
+use Rattle.trace.specs.declared.Found.{Found}
+use Rattle.trace.specs.declared.Found.the-variants.{Searched}
+use Rattle.trace.specs.declared.Name.the-variants.{Named, Nameless}
+use Rattle.trace.specs.declared.ThreadKind.the-variants.{Gone}
 use Rattle.words.specs.Each.{Each}
 use Rattle.words.specs.declared.Order.the-variants.{Little}
 use Rattle.writing.proofs.Opened.{open-writing}
-use Rattle.writing.specs.Writing.{formatting, left, recording, said}
+use Rattle.writing.specs.Writing.{formatting, left, recording, registering, removing, said}
 use Rattle.writing.specs.declared.Format.{Format}
+use Rattle.writing.specs.declared.Object.{Object}
 use Rattle.writing.specs.declared.Outcome.the-variants.{Done}
 use Rattle.demands.specs.History.{Call, NeverBack, Typed, Write, acceptedWrites, given, sinceOldest, wholeRanges, write}
 use Rattle.demands.specs.Masks.{range}
 use Rattle.demands.specs.Refusals.{givenAt}
 use Rattle.demands.specs.Shown.{ReadingAccepted}
 use Rattle.demands.specs.WholeCase.{fourthWrite, middle, newest, oldest, pump, wholeDump, wholeHeader}
-use Rattle.demands.specs.Wrong.{AlwaysAppended, AlwaysExact, CountGrows, CutOnce, MicrosecondsBare, NonsenseCut, SerialsTouch, StampsRise, Wrong}
+use Rattle.demands.specs.Wrong.{AlwaysAppended, AlwaysExact, CountGrows, CutOnce, MicrosecondsBare, NameLost, NonsenseCut, OthersKept, SerialsTouch, StampsRise, Wrong}
 use Rattle.demands.proofs.BareNumbers.{bare-numbers}
 use Rattle.demands.proofs.Starred.{starred}
 use Rattle.demands.proofs.ThirdDemand.{third-demand}
@@ -42,6 +48,16 @@ whole = wholeDump Little
 
 abbrev faulty : List ℕ
 faulty = set whole 112 0
+
+-- the same once its thread is removed, and once a queue has the thread's entry
+abbrev removed : List ℕ
+removed = left (removing 0x20001000 whole) whole
+
+queue : Object
+queue = record { «object_type» = 3; pointer = 0x20003000; «parameter_one» = 0; «parameter_two» = 0; «reserved_one» = 0; «reserved_two» = 0 }
+
+abbrev reused : List ℕ
+reused = left (registering queue [] removed) removed
 
 -- the first bytes of that dump, and of the same with a registry end that is not behind a whole entry
 abbrev upload : List ℕ
@@ -85,6 +101,12 @@ record Computed : Type 0 where
   range-is : range 0xFFFF ≡ 65536
   one-range : wholeRanges 65536 apart 1 ≡ 1
   gone : sinceOldest apart 1 ≡ 65536
+  one-entry : entryCount (headerOf whole) ≡ 1
+  removal : Accepted (removing 0x20001000 whole .rows)
+  typed : Accepted (registryRows whole (headerOf whole))
+  pump-gone : findName removed 0x20001000 ≡ Searched (Named Gone 64 4)
+  taken : Accepted (registering queue [] removed .rows)
+  pump-lost : findName reused 0x20001000 ≡ Searched Nameless
   short : checkOf cut-off ≡ Refused (record { number = 1; place = 0 })
   longer : checkOf (cut-off ++ (0 ∷ [])) ≡ Refused (record { number = 3; place = 0 })
   begun : Accepted (beforeEnds (headerOf nonsense) (length nonsense))
@@ -95,8 +117,8 @@ record Computed : Type 0 where
   slots-cut : checkOf (upload ++ replicate 12 0) ≡ Refused (givenAt 26 96)
 
 computed : Computed
-unfolding open-writing pump middle newest oldest wholeDump wholeHeader fromCurrent keep numbersFrom oldestFirst digits digitsIn microseconds given fourthWrite twoSlots blank writeAt
-computed = record { oldest-stamp = refl; next-stamp = refl; first-digit = refl; no-mask = refl; slot-1 = refl; fifth = refl; header = refl; three = refl; two = refl; accepted = refl; range-is = refl; one-range = refl; gone = refl; short = refl; longer = refl; begun = refl; came = refl; beyond = refl; not-whole = refl; registry-cut = refl; slots-cut = refl }
+unfolding open-writing pump middle newest oldest wholeDump wholeHeader fromCurrent keep numbersFrom oldestFirst digits digitsIn microseconds given fourthWrite twoSlots blank writeAt queue findName nameIfEntry nameOf threadName
+computed = record { oldest-stamp = refl; next-stamp = refl; first-digit = refl; no-mask = refl; slot-1 = refl; fifth = refl; header = refl; three = refl; two = refl; accepted = refl; range-is = refl; one-range = refl; gone = refl; one-entry = refl; removal = refl; typed = refl; pump-gone = refl; taken = refl; pump-lost = refl; short = refl; longer = refl; begun = refl; came = refl; beyond = refl; not-whole = refl; registry-cut = refl; slots-cut = refl }
 
 by-stamp : StampsRise → ⊥
 by-stamp wrong =
@@ -141,6 +163,17 @@ growing wrong =
     let same : 4 ≡ min 4 (slotCount (headerOf whole)) = check-events _ _ _ left-four ∙ sym (check-events _ _ _ left-three) in
     omega (arith, computed .three)
 
+losing : NameLost → ⊥
+losing wrong =
+    let lost = wrong 0x20001000 whole (computed .removal) (computed .typed) (λ i j below inside one two same. omega (arith, computed .one-entry)) in
+    true≢false (ap (λ (x : Found). isNamed (nameFound x)) (sym (computed .pump-gone) ∙ lost))
+
+keeping : OthersKept → ⊥
+unfolding queue
+keeping wrong =
+    let kept = wrong queue [] removed 0x20001000 (omega arith) (computed .taken) (λ same. omega arith) in
+    true≢false (ap (λ (x : Found). isNamed (nameFound x)) (sym (computed .pump-gone) ∙ sym (kept .found) ∙ computed .pump-lost))
+
 exact : AlwaysExact → ⊥
 unfolding twoSlots writeAt
 exact wrong =
@@ -163,6 +196,8 @@ wrong = record {
   serials-touch = touching;
   no-places = λ wrong. omega (arith, wrong faulty _ (computed .slot-1));
   count-grows = growing;
+  name-lost = losing;
+  others-kept = keeping;
   always-appended = appending;
   nonsense-cut = saying-cut;
   cut-once = cutting;

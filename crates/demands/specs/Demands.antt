@@ -53,7 +53,7 @@ use Rattle.demands.specs.Refusals.{Orders, Refuses, RefusesAndKeeps, giv
 use Rattle.demands.specs.Shown.{ReadingAccepted, linesOf, shownMicroseconds, shownTicks}
 use Rattle.demands.specs.Texts.{Texts}
 use Rattle.demands.specs.Turns.{Turns}
-use Rattle.demands.specs.Writings.{Formatted, Recorded, Registered, Removed}
+use Rattle.demands.specs.Writings.{Formatted, Recorded, Registered, Removed, Reused}
 
 -- THE FIRST DEMAND
 
@@ -113,7 +113,7 @@ pub record SecondDemand : Type 0 where
   -- "Reading follows chapter 11 of the ThreadX guide as 01 condenses it, for both byte orders, and so does the writer that formats, records and registers."
   -- what is written is read back
   pub one-description : Layouts
-  -- the id, the mask, offsets, the used/unused rule, order and time, and names, in document 01's words
+  -- the id, the mask, offsets, the used/unused rule, order and time, and names, in the documents' words
   pub patterns : (s : List ℕ) → AreBytes s → Patterns s
   pub masks : Masks
   pub offsets : Offsets
@@ -132,6 +132,8 @@ pub record SecondDemand : Type 0 where
   pub registers : (object : Object) (name s : List ℕ) → object .pointer < 2 ^ 32 → Accepted (registering object name s .rows)
       → Registered object name s (left (registering object name s) s) (headerOf s)
   pub removes : (pointer : ℕ) (s : List ℕ) → Accepted (removing pointer s .rows) → Removed pointer s (left (removing pointer s) s) (headerOf s)
+  pub reuses : (pointer : ℕ) (object : Object) (name s : List ℕ) → object .pointer < 2 ^ 32 → Accepted (removing pointer s .rows)
+      → Accepted (registering object name (left (removing pointer s) s) .rows) → Reused pointer object name s
   -- what the calls give
   pub gives : Gives
   -- "The listing is the one text that 01 defines,": its length is given, it stands in the output, and output past it keeps its bytes
@@ -145,8 +147,8 @@ pub record SecondDemand : Type 0 where
   pub one-line : (s : List ℕ) (h : Header) (r : Reading) (position : ℕ)
       → (body : List ℕ) × (lineAt s h r position ≡ body ++ (0x0A ∷ [])) × Each (λ c. c ≡ 0x0A → ⊥) body
   pub empty-ring : (s : List ℕ) (h : Header) (r : Reading) → eventCount s h ≡ 0 → listingText s h r ≡ []
-  -- "JSON is RFC 8259.": each line without its 0A is an object by its grammar, with the members of document 01, and the numbers of a text are those that
-  -- `jsonNumbers` finds
+  -- "JSON is RFC 8259.": each line without its 0A is an object by its grammar, with the members of document 01 and "gone", and the numbers of a text are
+  -- those that `jsonNumbers` finds
   pub json : JsonLines
   -- what is printed reads back
   pub texts : Texts

@@ -1,6 +1,7 @@
 -- Each line without its 0A is a JSON text of RFC 8259, and what `jsonNumbers` finds in such a text are its numbers.
 use Prim.Native.Nat.{ℕ}
 use Prim.Native.String.{String}
+use mathlib.Core.Bool.{Bool, true, false}
 use mathlib.Core.List.{List, [], _∷_, _++_, map}
 use mathlib.Core.Option.{Option}
 use mathlib.Core.Path.{_≡_}
@@ -30,7 +31,12 @@ byText Init = ascii "\"init\""
 byText Isr = ascii "\"isr\""
 byText Thread = ascii "\"thread\""
 
--- the members of a line, in the order of document 01
+-- true and false, as literals
+abbrev pub goneText : Bool → List ℕ
+goneText true = ascii "true"
+goneText false = ascii "false"
+
+-- the members of a line, in the order of document 01, and "gone" behind "name" (document 02, A5)
 abbrev pub labelled : String → List ℕ → Member
 labelled name text = record { name = ascii name; text = text }
 
@@ -43,6 +49,7 @@ lineMembers l n =
     ∷ labelled "ptr" (number (l .ptr))
     ∷ labelled "by" (byText (l .by))
     ∷ labelled "name" (name n)
+    ∷ labelled "gone" (goneText (l .gone))
     ∷ labelled "field" (number (l .field))
     ∷ labelled "info" (ascii "[" ++ separated (number (l .info .first) ∷ number (l .info .second) ∷ number (l .info .third) ∷ number (l .info .fourth) ∷ []) ++ ascii "]")
     ∷ []

@@ -98,7 +98,7 @@ pub record Mends (s t : List ℕ) (h : Header) (r : Repairs) : Type 0 where
   -- nothing is invented and nothing sound is lost: the events are the slots that came, in their order, with all their bytes and so all their words
   pub events : (p : ℕ) → p < length (cameOf s) → SameAt s (slotAt h (getD (cameOf s) p 0)) t (slotAt h (slotOf t (headerOf t) p)) (slotSize h)
   pub words : (p : ℕ) → p < length (cameOf s) → slotIn (h .order) t (slotAt h (slotOf t (headerOf t) p)) ≡ slotIn (h .order) s (slotAt h (getD (cameOf s) p 0))
-  -- and every name is found as before, at the same place with the same bytes
+  -- and every name is found that the dump's registry has, at the same place, of the same kind and with the same bytes
   pub names : (pointer : ℕ) → (findName t pointer ≡ Searched (nameOf s h pointer)) × (nameBytes t (nameOf s h pointer) ≡ nameBytes s (nameOf s h pointer))
 
 abbrev pub noRepairs : Repairs

@@ -1,12 +1,14 @@
--- Names in document 01's own words: whose name it is, where it begins and ends, and by what an event's name is sought.
+-- Names in the documents' own words: whose name it is, live or gone (document 02, A5), where it begins and ends, and by what an event's name is sought.
 use Prim.Native.Nat.{ℕ, _+_, _≤_, _<_}
-use mathlib.Core.Bool.{true}
+use mathlib.Core.Bool.{Bool, true, false}
 use mathlib.Core.List.{List}
 use mathlib.Core.Logic.{_⊎_}
 use mathlib.Core.Path.{_≡_}
 use lib.ListN.{getD, length}
 use Rattle.events.specs.Events.{contextOf, eventOf}
+use Rattle.events.specs.Listing.{fields}
 use Rattle.events.specs.declared.Event.{Event}
+use Rattle.events.specs.declared.Reading.{Reading}
 use Rattle.events.specs.declared.Shown.{Shown}
 use Rattle.events.specs.declared.Shown.the-variants as shown
 use Rattle.rows.specs.declared.Refusal.{Refusal}
@@ -18,16 +20,23 @@ use Rattle.trace.specs.declared.Found.the-variants as found
 use Rattle.trace.specs.declared.Header.{Header}
 use Rattle.trace.specs.declared.Name.{Name}
 use Rattle.trace.specs.declared.Name.the-variants.{Named, Nameless}
+use Rattle.trace.specs.declared.ThreadKind.{ThreadKind}
+use Rattle.trace.specs.declared.ThreadKind.the-variants.{Gone, Live}
 
--- an in-use entry of type 1 with a pointer
-abbrev pub IsThread : List ℕ → Header → ℕ → ℕ → Type 0
-IsThread s h pointer i = (isInUse s (entryAt h i) ≡ true) × (typeAt s (entryAt h i) ≡ 1) × (pointerAt (h .order) s (entryAt h i) ≡ pointer)
+-- a live thread's entry is in use, and that of one that is gone is free
+abbrev pub IsOf : ThreadKind → Bool → Type 0
+IsOf Live used = used ≡ true
+IsOf Gone used = used ≡ false
 
--- the lowest such entry
-pub record Lowest (s : List ℕ) (h : Header) (pointer i : ℕ) : Type 0 where
+-- such an entry, of type 1, with a pointer
+abbrev pub IsThread : ThreadKind → List ℕ → Header → ℕ → ℕ → Type 0
+IsThread kind s h pointer i = IsOf kind (isInUse s (entryAt h i)) × (typeAt s (entryAt h i) ≡ 1) × (pointerAt (h .order) s (entryAt h i) ≡ pointer)
+
+-- the lowest of them
+pub record Lowest (kind : ThreadKind) (s : List ℕ) (h : Header) (pointer i : ℕ) : Type 0 where
   pub below : i < entryCount h
-  pub is : IsThread s h pointer i
-  pub no-lower : (j : ℕ) → j < i → IsThread s h pointer j → ⊥
+  pub is : IsThread kind s h pointer i
+  pub no-lower : (j : ℕ) → j < i → IsThread kind s h pointer j → ⊥
 
 -- a name begins at an entry's 16 and runs to its first zero byte or the name size
 pub record Extends (s : List ℕ) (h : Header) (i at size : ℕ) : Type 0 where
@@ -44,9 +53,16 @@ abbrev pub LiesWithin : Name → List ℕ → Type 0
 LiesWithin name s = nameStart name + nameLength name ≤ length s
 
 pub record Names (s : List ℕ) : Type 0 where
-  -- the name for a pointer is that of the lowest in-use entry of type 1 with it; where there is none, no entry is such
-  pub named : (pointer at size : ℕ) → nameOf s (headerOf s) pointer ≡ Named at size → (i : ℕ) × Lowest s (headerOf s) pointer i × Extends s (headerOf s) i at size
-  pub nameless : (pointer : ℕ) → nameOf s (headerOf s) pointer ≡ Nameless → (i : ℕ) → i < entryCount (headerOf s) → IsThread s (headerOf s) pointer i → ⊥
+  -- the name for a pointer is that of the lowest entry of type 1 with it, among those in use where it is live and among the free ones where it is gone
+  pub named : (pointer : ℕ) (kind : ThreadKind) (at size : ℕ) → nameOf s (headerOf s) pointer ≡ Named kind at size
+      → (i : ℕ) × Lowest kind s (headerOf s) pointer i × Extends s (headerOf s) i at size
+  -- a live one always wins, so it is gone only where no in-use entry of type 1 has the pointer; where there is none, no entry of type 1 has it
+  pub live-wins : (pointer i : ℕ) → i < entryCount (headerOf s) → IsThread Live s (headerOf s) pointer i
+      → (at : ℕ) × (size : ℕ) × (nameOf s (headerOf s) pointer ≡ Named Live at size)
+  pub gone-alone : (pointer at size : ℕ) → nameOf s (headerOf s) pointer ≡ Named Gone at size
+      → (i : ℕ) → i < entryCount (headerOf s) → IsThread Live s (headerOf s) pointer i → ⊥
+  pub nameless : (pointer : ℕ) → nameOf s (headerOf s) pointer ≡ Nameless
+      → (kind : ThreadKind) (i : ℕ) → i < entryCount (headerOf s) → IsThread kind s (headerOf s) pointer i → ⊥
   -- finding a name gives that, whatever the pointer's context
   pub searched : (pointer : ℕ) (name : Name) → findName s pointer ≡ found.Searched name → name ≡ nameOf s (headerOf s) pointer
   -- it lies within the dump, whatever the bytes; where there is none, and in a refusal, its length is 0 (that the part handed back is this one: `calls` in
@@ -63,4 +79,8 @@ pub record Names (s : List ℕ) : Type 0 where
   pub thread-name : (position : ℕ) (e : Event) → eventOf s position ≡ shown.Given e → e .by ≡ Thread → e .name ≡ nameOf s (headerOf s) (e .slot .pointer)
   pub isr-name : (position : ℕ) (e : Event) → eventOf s position ≡ shown.Given e → e .by ≡ Isr → e .name ≡ nameOf s (headerOf s) (e .slot .field)
   pub init-name : (position : ℕ) (e : Event) → eventOf s position ≡ shown.Given e → e .by ≡ Init → e .name ≡ Nameless
+  -- its line has "gone":true for the name of a thread that is gone, and otherwise false, also where there is no name
+  pub says-gone : (r : Reading) (position : ℕ) (e : Event) (at size : ℕ) → e .name ≡ Named Gone at size → fields r position e .gone ≡ true
+  pub says-live : (r : Reading) (position : ℕ) (e : Event) (at size : ℕ) → e .name ≡ Named Live at size → fields r position e .gone ≡ false
+  pub says-none : (r : Reading) (position : ℕ) (e : Event) → e .name ≡ Nameless → fields r position e .gone ≡ false
   pub event-within : (position : ℕ) → LiesWithin (nameShown (eventOf s position)) s

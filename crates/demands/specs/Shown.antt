@@ -7,7 +7,8 @@ use Rattle.text.specs.Lines.{line}
 use Rattle.text.specs.declared.Line.{Line}
 use Rattle.trace.specs.Keys.{key}
 use Rattle.trace.specs.Layout.{headerOf}
-use Rattle.trace.specs.Names.{nameBytes}
+use Rattle.trace.specs.Names.{isGone, nameBytes}
+use Rattle.trace.specs.declared.Name.{Name}
 use Rattle.trace.specs.Times.{microseconds, ticksOf}
 use Rattle.demands.specs.History.{Write, given}
 
@@ -18,7 +19,11 @@ shownTicks t position = ticksOf t (headerOf t) position
 abbrev pub shownMicroseconds : List ℕ → Reading → ℕ → ℕ
 shownMicroseconds t r position = microseconds (shownTicks t position) (r .rate)
 
--- what the line says of a write at a position: pointer, field, id and information words as written
+-- the name that the registry has for a write when the buffer is read
+abbrev pub nameWhenRead : List ℕ → Write → Name
+nameWhenRead t w = nameFor (contextOf (w .pointer)) t (headerOf t) (given w)
+
+-- what the line says of a write at a position: pointer, field, id and information words as written, and whether its name is a thread's that is gone
 abbrev pub wordsOf : List ℕ → Reading → ℕ → Write → Line
 wordsOf t r position w = record {
   key = key (r .unit) (r .serial) position;
@@ -27,13 +32,14 @@ wordsOf t r position w = record {
   id = w .id;
   ptr = w .pointer;
   by = contextOf (w .pointer);
+  gone = isGone (nameWhenRead t w);
   field = w .field;
   info = record { first = w .first; second = w .second; third = w .third; fourth = w .fourth };
 }
 
--- the line, with the name that the registry has for the write
+-- the line, with the name
 abbrev pub lineFor : List ℕ → Reading → ℕ → Write → List ℕ
-lineFor t r position w = line (wordsOf t r position w) (nameBytes t (nameFor (contextOf (w .pointer)) t (headerOf t) (given w)))
+lineFor t r position w = line (wordsOf t r position w) (nameBytes t (nameWhenRead t w))
 
 -- the lines of writes, the first of them at a position
 abbrev pub linesFrom : List ℕ → Reading → ℕ → List Write → List ℕ

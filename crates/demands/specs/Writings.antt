@@ -9,7 +9,7 @@ use Rattle.rows.specs.Rows.{firstBroken}
 use Rattle.rows.specs.declared.Verdict.the-variants.{Passed}
 use Rattle.trace.specs.Check.{checkOf}
 use Rattle.trace.specs.Layout.{headerOf, bufferStart, currentAt, currentSlot, entryCount, slotAt, slotCount, entryAt, entrySize, slotSize, withCurrent}
-use Rattle.trace.specs.Names.{findName, nameBytes}
+use Rattle.trace.specs.Names.{entryName, findName, nameBytes, nameIfEntry, nameOf, threadEntry, threadName}
 use Rattle.trace.specs.Registry.{isWanted, typeAt}
 use Rattle.trace.specs.Slots.{slotIn}
 use Rattle.trace.specs.Table.{registryRows}
@@ -18,11 +18,12 @@ use Rattle.trace.specs.declared.Found.the-variants.{Searched}
 use Rattle.trace.specs.declared.Header.{Header}
 use Rattle.trace.specs.declared.Name.the-variants.{Nameless}
 use Rattle.trace.specs.declared.Slot.{Slot}
-use Rattle.trace.specs.declared.Wanted.the-variants.{Free, InUse}
+use Rattle.trace.specs.declared.ThreadKind.the-variants.{Gone, Live}
+use Rattle.trace.specs.declared.Wanted.the-variants.{Free, InUse, Thread}
 use Rattle.writing.specs.Bytes.{entryBytes}
-use Rattle.writing.specs.Keeping.{OneEach, SameEvents, SameName, Outside, entered}
+use Rattle.writing.specs.Keeping.{FoundNow, OneEach, Outside, SameEvents, SameName, entered, otherThread}
 use Rattle.writing.specs.Table.{lowestEntry}
-use Rattle.writing.specs.Writing.{cut, freshBytes, freshEnd, freshSlot, freshSlots, nextPointer, nextSlot}
+use Rattle.writing.specs.Writing.{cut, freshBytes, freshEnd, freshSlot, freshSlots, left, nextPointer, nextSlot, registering, removing}
 use Rattle.writing.specs.declared.Format.{Format}
 use Rattle.writing.specs.declared.Object.{Object}
 
@@ -43,8 +44,9 @@ pub record Formatted (f : Format) (s t : List ℕ) (h : Header) : Type 0 where
   -- leftover bytes stay
   pub leftover : (i : ℕ) → freshEnd f (length s) ≤ i → getD t i 0 ≡ getD s i 0
   pub size : length t ≡ length s
-  -- no pointer is in use twice
+  -- no pointer is in use twice, and nobody has a name: free entries are of type 0
   pub one-each : OneEach t h
+  pub nobody : (pointer : ℕ) → findName t pointer ≡ Searched Nameless
 
 -- what recording leaves, t, of a buffer s with header h
 pub record Recorded (slot : Slot) (s t : List ℕ) (h : Header) : Type 0 where
@@ -63,6 +65,10 @@ pub record Recorded (slot : Slot) (s t : List ℕ) (h : Header) : Type 0 where
   pub names : (pointer : ℕ) → SameName s t pointer
   pub one-each : OneEach s h → OneEach t (headerOf t)
 
+-- a pointer by which the object is not found as a thread
+abbrev pub Aside : Object → ℕ → Type 0
+Aside object pointer = object .«object_type» ≡ 1 → pointer ≡ object .pointer → ⊥
+
 -- what registering leaves, t, of a buffer s with header h
 pub record Registered (object : Object) (name s t : List ℕ) (h : Header) : Type 0 where
   -- no byte changes but the entry's
@@ -74,15 +80,24 @@ pub record Registered (object : Object) (name s t : List ℕ) (h : Header) : Typ
   -- it is in use, with the pointer and the type given
   pub in-use : isWanted (InUse (object .pointer)) t h (lowestEntry Free s h) ≡ true
   pub type : typeAt t (entryAt h (lowestEntry Free s h)) ≡ object .«object_type»
-  -- a thread's name is found by its pointer, cut to the name size
+  -- where rows 1 to 11 pass, a thread's name is found by its pointer, live, cut to the name size
   pub found : object .«object_type» ≡ 1 → firstBroken (registryRows s h) ≡ Passed → findName t (object .pointer) ≡ Searched (entered s h name)
   pub bytes : nameBytes t (entered s h name) ≡ some (take (h .«name_size») name)
-  -- no other name changes, and no event
-  pub others : (pointer : ℕ) → (pointer ≡ object .pointer → ⊥) → SameName s t pointer
+  -- no other name changes, unless the entry had it, from a thread that is gone: where rows 1 to 11 pass, found is then the name of the lowest other thread that
+  -- is gone and has the pointer, or none
+  pub others : (pointer : ℕ) → Aside object pointer → (nameOf s h pointer ≡ entryName Gone s h (lowestEntry Free s h) → ⊥) → SameName s t pointer
+  pub reused : firstBroken (registryRows s h) ≡ Passed → (pointer : ℕ) → Aside object pointer → nameOf s h pointer ≡ entryName Gone s h (lowestEntry Free s h)
+      → FoundNow s t pointer (nameIfEntry Gone s h (otherThread Gone s h pointer (lowestEntry Free s h)))
+  -- no event changes
   pub events : SameEvents s t h
   -- a sound dump stays sound
   pub sound : (n : ℕ) → checkOf s ≡ Sound h n → checkOf t ≡ Sound h n
   pub one-each : OneEach s h → OneEach t h
+
+-- an entry is of type 1, and no other in-use entry of type 1 has the pointer
+abbrev pub IsOnly : List ℕ → Header → ℕ → ℕ → Type 0
+IsOnly s h pointer entry =
+    (typeAt s (entryAt h entry) ≡ 1) × ((i : ℕ) → i < entryCount h → isWanted (Thread Live pointer) s h i ≡ true → i ≡ entry)
 
 -- what removing leaves, t, of a buffer s with header h
 pub record Removed (pointer : ℕ) (s t : List ℕ) (h : Header) : Type 0 where
@@ -90,14 +105,29 @@ pub record Removed (pointer : ℕ) (s t : List ℕ) (h : Header) : Type 0 where
   pub size : length t ≡ length s
   pub untouched : (i : ℕ) → (i ≡ entryAt h (lowestEntry (InUse pointer) s h) → ⊥) → getD t i 0 ≡ getD s i 0
   pub header : headerOf t ≡ h
-  -- the name is not found, where no pointer is in use twice
-  pub gone : firstBroken (registryRows s h) ≡ Passed → OneEach s h → findName t pointer ≡ Searched Nameless
+  -- of names where rows 1 to 11 pass: that of a thread whose pointer no other live one has is found as gone, from the lowest entry of a thread that is gone and
+  -- has the pointer, which is the one removed unless such a one is lower, with its bytes as they were
+  pub gone : firstBroken (registryRows s h) ≡ Passed → IsOnly s h pointer (lowestEntry (InUse pointer) s h)
+      → FoundNow s t pointer (entryName Gone s h (min (threadEntry Gone s h pointer) (lowestEntry (InUse pointer) s h)))
+  -- where another live thread has the pointer, the lowest of those is found
+  pub still : firstBroken (registryRows s h) ≡ Passed → otherThread Live s h pointer (lowestEntry (InUse pointer) s h) < entryCount h
+      → FoundNow s t pointer (entryName Live s h (otherThread Live s h pointer (lowestEntry (InUse pointer) s h)))
   -- its entry is free, and is the one that the next registration uses unless a lower one is free
   pub freed : isWanted Free t h (lowestEntry (InUse pointer) s h) ≡ true
   pub free : lowestEntry Free t h ≡ min (lowestEntry Free s h) (lowestEntry (InUse pointer) s h)
-  -- no other name changes, and no event
-  pub others : firstBroken (registryRows s h) ≡ Passed → (other : ℕ) → (other ≡ pointer → ⊥) → SameName s t other
+  -- where rows 1 to 11 pass, no other name changes, and none at all where it was no thread's that was removed
+  pub others : firstBroken (registryRows s h) ≡ Passed → (other : ℕ) → (typeAt s (entryAt h (lowestEntry (InUse pointer) s h)) ≡ 1 → other ≡ pointer → ⊥) → SameName s t other
+  -- no event changes
   pub events : SameEvents s t h
   -- a sound dump stays sound
   pub sound : (n : ℕ) → checkOf s ≡ Sound h n → checkOf t ≡ Sound h n
   pub one-each : OneEach s h → OneEach t h
+
+-- a thread is removed, and an object, but no thread with that pointer, is then registered in the entry that it had: where rows 1 to 11 pass, its name is found
+-- no more, but that of the lowest thread with its pointer that was gone before, or none
+abbrev pub Reused : ℕ → Object → List ℕ → List ℕ → Type 0
+Reused pointer object name s =
+    let between = left (removing pointer s) s in
+    firstBroken (registryRows s (headerOf s)) ≡ Passed → IsOnly s (headerOf s) pointer (lowestEntry (InUse pointer) s (headerOf s))
+    → lowestEntry Free between (headerOf s) ≡ lowestEntry (InUse pointer) s (headerOf s) → Aside object pointer
+    → FoundNow s (left (registering object name between) between) pointer (threadName Gone s (headerOf s) pointer)

@@ -11,16 +11,21 @@ use Rattle.rows.specs.declared.Refusal.{Refusal}
 use Rattle.text.specs.Numbers.{digits, number}
 use Rattle.trace.specs.Check.{checkOf}
 use Rattle.trace.specs.Layout.{headerOf, mostBytes, registryEnd}
+use Rattle.trace.specs.Names.{findName}
 use Rattle.trace.specs.Slots.{eventCount}
-use Rattle.trace.specs.Table.{beforeEnds, dumpRows, row4}
+use Rattle.trace.specs.Table.{beforeEnds, dumpRows, registryRows, row4}
 use Rattle.trace.specs.Times.{microseconds, stampOf}
 use Rattle.trace.specs.declared.Checked.the-variants.{Refused, Sound}
+use Rattle.trace.specs.declared.Found.the-variants.{Searched}
 use Rattle.trace.specs.declared.Header.{Header}
+use Rattle.trace.specs.declared.Name.the-variants.{Nameless}
 use Rattle.trace.specs.declared.Slot.{Slot}
 use Rattle.words.specs.Each.{Each}
 use Rattle.writing.specs.Arguments.{IsSlot}
-use Rattle.writing.specs.Writing.{formatting, left, recording, said}
+use Rattle.writing.specs.Keeping.{OneEach, SameName}
+use Rattle.writing.specs.Writing.{formatting, left, recording, registering, removing, said}
 use Rattle.writing.specs.declared.Format.{Format}
+use Rattle.writing.specs.declared.Object.{Object}
 use Rattle.writing.specs.declared.Outcome.the-variants.{Done}
 use Rattle.demands.specs.History.{Call, NeverBack, NoneFormats, Typed, acceptedWrites, after, lastOf, sinceOldest}
 use Rattle.demands.specs.Keys.{keyAt}
@@ -61,6 +66,18 @@ CountGrows =
     (slot : Slot) (s : List ℕ) (n : ℕ) → IsSlot slot → Accepted (recording slot s .rows) → checkOf s ≡ Sound (headerOf s) n
     → let t = left (recording slot s) s in checkOf t ≡ Sound (headerOf t) (suc n)
 
+-- a removed thread's name is found no more (as it was before document 02, A5)
+abbrev pub NameLost : Type 0
+NameLost =
+    (pointer : ℕ) (s : List ℕ) → Accepted (removing pointer s .rows) → Accepted (registryRows s (headerOf s)) → OneEach s (headerOf s)
+    → findName (left (removing pointer s) s) pointer ≡ Searched Nameless
+
+-- registering changes no name but the new one, also where its entry had one from a thread that is gone
+abbrev pub OthersKept : Type 0
+OthersKept =
+    (object : Object) (name s : List ℕ) (pointer : ℕ) → object .pointer < 2 ^ 32 → Accepted (registering object name s .rows)
+    → (pointer ≡ object .pointer → ⊥) → SameName s (left (registering object name s) s) pointer
+
 -- bytes appended change no answer, also where a dump was too short
 abbrev pub AlwaysAppended : Type 0
 AlwaysAppended = (s more : List ℕ) → length (s ++ more) ≤ mostBytes → SameAnswers s (s ++ more)
@@ -93,6 +110,8 @@ pub record Wrong : Type 0 where
   pub serials-touch : SerialsTouch → ⊥
   pub no-places : NoPlaces → ⊥
   pub count-grows : CountGrows → ⊥
+  pub name-lost : NameLost → ⊥
+  pub others-kept : OthersKept → ⊥
   pub always-appended : AlwaysAppended → ⊥
   pub nonsense-cut : NonsenseCut → ⊥
   pub cut-once : CutOnce → ⊥

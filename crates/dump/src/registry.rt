@@ -6,6 +6,7 @@ use rows::either;
 use rows::least;
 use trace::HEADER_SIZE;
 use trace::Header;
+use trace::ThreadKind;
 use trace::Wanted;
 use words::Order;
 ghost use mathlib.Core.Path.{_≡_};
@@ -14,7 +15,7 @@ ghost use Prim.Native.Nat.{ℕ, _≤_, _<_, _^_};
 ghost use lib.Dec.{eqb};
 ghost use Rattle.rows.specs.Lowest.{lowest};
 ghost use Rattle.trace.specs.Layout.{entryCount};
-ghost use Rattle.trace.specs.Registry.{isInUse, isAllowedType, isThreadAt, pointerAt, typeAt, isWantedAt, isWanted};
+ghost use Rattle.trace.specs.Registry.{isInUse, isAllowedType, isOfKind, isThreadAt, kindAt, pointerAt, typeAt, isWantedAt, isWanted};
 
 fn in_use(dump: &[u8], at: usize) -> bool
     ensures { λ r. ⌜ r ≡ isInUse (now (dump .entry)) at ⌝ }
@@ -44,12 +45,30 @@ pub fn is_bad_type(dump: &[u8], at: usize) -> bool
     both(used, !allowed_type(words::byte(dump, at, 1)))
 }
 
-// Whether the entry at a place is a thread's, in use.
+// Whether the entry at a place is a thread's, live or gone.
 pub fn is_thread(dump: &[u8], at: usize) -> bool
     ensures { λ r. ⌜ r ≡ isThreadAt (now (dump .entry)) at ⌝ }
 {
-    let used = in_use(dump, at);
-    both(used, words::byte(dump, at, 1) == 1)
+    words::byte(dump, at, 1) == 1
+}
+
+// Which kind of thread has the entry at a place, where it is a thread's.
+pub fn kind_at(dump: &[u8], at: usize) -> ThreadKind
+    ensures { λ r. ⌜ r ≡ kindAt (now (dump .entry)) at ⌝ }
+{
+    if in_use(dump, at) {
+        return ThreadKind::Live;
+    }
+    ThreadKind::Gone
+}
+
+fn is_of_kind(kind: ThreadKind, used: bool) -> bool
+    ensures { λ r. ⌜ r ≡ isOfKind kind used ⌝ }
+{
+    match kind {
+        ThreadKind::Live => used,
+        ThreadKind::Gone => !used,
+    }
 }
 
 // The pointer comes first: most entries have another.
@@ -66,9 +85,10 @@ fn is_wanted(dump: &[u8], at: usize, order: Order, wanted: Wanted) -> bool
             }
             false
         }
-        Wanted::Thread(pointer) => {
+        Wanted::Thread { kind, pointer } => {
             if has_pointer(dump, at, order, pointer) {
-                return is_thread(dump, at);
+                let used = in_use(dump, at);
+                return both(is_of_kind(kind, used), is_thread(dump, at));
             }
             false
         }
@@ -83,7 +103,7 @@ fn may_be_wanted(entry: &[u8], order: Order, wanted: Wanted) -> bool
         Wanted::BadType => is_bad_type(entry, 0),
         Wanted::Free => !in_use(entry, 0),
         Wanted::InUse(pointer) => has_pointer(entry, 0, order, pointer),
-        Wanted::Thread(pointer) => has_pointer(entry, 0, order, pointer),
+        Wanted::Thread { kind: _, pointer } => has_pointer(entry, 0, order, pointer),
     }
 }
 

@@ -65,9 +65,9 @@ checkAnswerOf t = record {
 unfoldable pub checkAnswer : Checked → CheckAnswer
 checkAnswer x = checkAnswerOf (checkedTold x)
 
--- a name: where it lies in the dump
+-- a name: its kind, and where it lies in the dump
 abbrev pub nameAnswerOf : Told → NameAnswer
-nameAnswerOf t = record { refusal = t .number; place = t .place; named = valueAt t 0; at = valueAt t 1; length = valueAt t 2 }
+nameAnswerOf t = record { refusal = t .number; place = t .place; kind = valueAt t 0; at = valueAt t 1; length = valueAt t 2 }
 
 unfoldable pub nameAnswer : Found → NameAnswer
 nameAnswer x = nameAnswerOf (foundTold x)
@@ -80,7 +80,7 @@ eventAnswerOf t = record {
   slot = slotFrom t;
   ticks = valueAt t 8;
   context = valueAt t 9;
-  named = valueAt t 10;
+  «name_kind» = valueAt t 10;
   «name_at» = valueAt t 11;
   «name_length» = valueAt t 12;
 }

@@ -1,10 +1,14 @@
-// An index of the registry's threads by their pointers, filled in one pass: a link for each entry, and behind them, for each place, the first.
+// An index of the registry's threads by their pointers, filled in one pass: a link for each entry, and behind them the first link of each place. Live threads and those that are gone have places of their own.
 use dump::is_thread;
+use dump::kind_at;
 use events::Event;
-use finder::name_if_entry;
+use finder::entry_name;
 use header::geometry_of;
 use trace::HEADER_SIZE;
 use trace::Header;
+use trace::NAME_OFFSET;
+use trace::Name;
+use trace::ThreadKind;
 use walk::Walk;
 use walk::event_with;
 use walk::slot_at;
@@ -13,19 +17,22 @@ ghost use mathlib.Core.Path.{_≡_};
 ghost use Prim.Native.Nat.{_<_, _≤_, suc};
 ghost use lib.ListN.{replicate};
 ghost use Rattle.trace.specs.Layout.{entryCount};
-ghost use Rattle.trace.specs.Names.{threadEntry};
+ghost use Rattle.trace.specs.Names.{nameOf};
 ghost use Rattle.walk.specs.Walks.{eventHere};
-ghost use Rattle.listing.specs.Index.{Linked, placeOf};
+ghost use Rattle.listing.specs.Index.{Ends, Linked, placeOf, spreadOf};
 
-// No dump has room for more entries. The first links stand behind theirs.
+// No dump has room for more entries. The first links of the places stand behind theirs.
 const FIRSTS: usize = 3274;
 
-// A link for each entry, and the first of each of 2,048 places.
-pub(crate) const LINKS: usize = 5322;
+// A link for each entry, and the first link of each of twice 2,048 places.
+pub(crate) const LINKS: usize = 7370;
+
+// Where a link leads that leads past all entries.
+pub(crate) const NOWHERE: u16 = 65535;
 
 // Links the threads, from the last entry to the first, so that each link leads to the lowest behind it.
 pub(crate) fn link_all(dump: &[u8], header: Header, links: &mut [u16; LINKS])
-    requires { ⌜ (entryCount header ≤ 3274) × (now links ≡ replicate 5322 65535) ⌝ }
+    requires { ⌜ (entryCount header ≤ 3274) × (now links ≡ replicate 7370 65535) ⌝ }
     ensures { λ r. ⌜ Linked (now (dump .entry)) header 0 (now (links .exit)) ⌝ }
 {
     let mut i = geometry_of(header).entries;
@@ -43,38 +50,69 @@ fn link(dump: &[u8], header: Header, entry: usize, links: &mut [u16; LINKS])
     let at = HEADER_SIZE + entry * geometry_of(header).entry_size;
     if is_thread(dump, at) {
         let order = header.order;
-        let place = place_of(words::word(dump, at + 4, order));
+        let place = place_of(kind_at(dump, at), words::word(dump, at + 4, order));
         links[entry] = links[FIRSTS + place];
         links[FIRSTS + place] = entry as u16;
     }
 }
 
+// The place of a pointer; behind the places of live threads are those of threads that are gone.
+fn place_of(kind: ThreadKind, pointer: u32) -> usize
+    ensures { λ r. ⌜ (r ≡ placeOf kind pointer) × (r < 4096) ⌝ }
+{
+    match kind {
+        ThreadKind::Live => spread(pointer),
+        ThreadKind::Gone => 2048 + spread(pointer),
+    }
+}
+
 // Bits 21 to 31 of a product, which spreads pointers at most regular distances, whatever bits they share.
-fn place_of(pointer: u32) -> usize
-    ensures { λ r. ⌜ (r ≡ placeOf pointer) × (r < 2048) ⌝ }
+fn spread(pointer: u32) -> usize
+    ensures { λ r. ⌜ (r ≡ spreadOf pointer) × (r < 2048) ⌝ }
 {
     (pointer as u64 * 2654435769 / 2097152 % 2048) as usize
 }
 
-// The lowest thread with a pointer, or the number of entries where there is none.
-fn linked_entry(dump: &[u8], header: Header, pointer: u32, links: &[u16; LINKS]) -> usize
+// The lowest thread of a kind with a pointer, or nowhere where there is none.
+fn linked_entry(
+    dump: &[u8],
+    header: Header,
+    kind: ThreadKind,
+    pointer: u32,
+    links: &[u16; LINKS],
+) -> usize
     requires { ⌜ Linked (now dump) header 0 (now links) ⌝ }
-    ensures { λ r. ⌜ r ≡ threadEntry (now (dump .entry)) header pointer ⌝ }
+    ensures { λ r. ⌜ Ends (now (dump .entry)) header kind pointer r ⌝ }
 {
-    let geometry = geometry_of(header);
-    let entries = geometry.entries;
-    let size = geometry.entry_size;
-    let order = header.order;
-    let mut i = links[FIRSTS + place_of(pointer)] as usize;
+    let size = NAME_OFFSET + header.name_size as usize;
+    let place = place_of(kind, pointer);
+    let mut i = links[FIRSTS + place] as usize;
     loop {
-        if entries <= i {
-            break entries;
+        if i == NOWHERE as usize {
+            break i;
         }
+        let order = header.order;
         if words::word(dump, HEADER_SIZE + i * size + 4, order) == pointer {
             break i;
         }
         i = links[i] as usize;
     }
+}
+
+// The name for a pointer: a live thread's, or else one's that is gone.
+fn name_of(dump: &[u8], header: Header, pointer: u32, links: &[u16; LINKS]) -> Name
+    requires { ⌜ Linked (now dump) header 0 (now links) ⌝ }
+    ensures { λ r. ⌜ r ≡ nameOf (now (dump .entry)) header pointer ⌝ }
+{
+    let live = linked_entry(dump, header, ThreadKind::Live, pointer, links);
+    if live != NOWHERE as usize {
+        return entry_name(dump, header, ThreadKind::Live, live as u32);
+    }
+    let gone = linked_entry(dump, header, ThreadKind::Gone, pointer, links);
+    if gone != NOWHERE as usize {
+        return entry_name(dump, header, ThreadKind::Gone, gone as u32);
+    }
+    Name::Nameless
 }
 
 // The event where a walk stands.
@@ -84,6 +122,9 @@ pub(crate) fn event_here(dump: &[u8], header: Header, walk: Walk, links: &[u16; 
 {
     let order = header.order;
     let slot = slot_at(dump, walk.at, order);
-    let entry = linked_entry(dump, header, sought_by(slot), links);
-    event_with(slot, walk.ticks, name_if_entry(dump, header, entry))
+    event_with(
+        slot,
+        walk.ticks,
+        name_of(dump, header, sought_by(slot), links),
+    )
 }

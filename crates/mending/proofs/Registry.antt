@@ -1,13 +1,12 @@
 -- The registry of a copy: entries with a bad type have flag 1 and else their bytes, others all of theirs; so no type is bad, and every name is found as before.
 use Prim.Native.Nat.{ℕ, _+_, _≤_, _<_}
-use mathlib.Core.Bool.{Bool, true, false, cond, _&&_, and-eq-true-iff, and-false, true≢false}
+use mathlib.Core.Bool.{Bool, true, false, cond, not, and-eq-true-iff, not-eq-not, true≢false}
 use mathlib.Core.List.{List, _++_}
 use mathlib.Core.Logic.{inr}
 use mathlib.Core.Path.{_≡_, refl, sym, _∙_}
 use native.Mathlib.Nat.{add-zero}
 use native.Mathlib.Omega.{arith}
-use borrow.Author.Tests.{eqb-true}
-use lib.Dec.{eqb}
+use borrow.Author.Tests.{not-true}
 use lib.ListN.{getD, length, set}
 use lib.Seq.{getD-set-other, getD-set-same}
 use Rattle.rows.proofs.Lowest.{count-same, lowest-hit, lowest-same}
@@ -16,11 +15,13 @@ use Rattle.rows.specs.Rows.{Row, firstBroken}
 use Rattle.rows.specs.declared.Verdict.the-variants.{Passed}
 use Rattle.trace.proofs.Passed.{buffer-sized, entry-in-registry, registry-within, slots-start}
 use Rattle.trace.proofs.SameBytes.{Same, same-wanted}
+use Rattle.trace.proofs.Threads.{thread-missed}
 use Rattle.trace.specs.Layout.{bufferEnd, bufferStart, entryAt, entryCount, entrySize, headerSize}
 use Rattle.trace.specs.Names.{nameOf, threadEntry}
-use Rattle.trace.specs.Registry.{isAllowedType, isInUse, isWanted, isWantedAt, pointerAt, typeAt}
+use Rattle.trace.specs.Registry.{isAllowedType, isInUse, isWanted, isWantedAt, typeAt}
 use Rattle.trace.specs.Table.{layoutRows}
 use Rattle.trace.specs.declared.Header.{Header}
+use Rattle.trace.specs.declared.ThreadKind.{ThreadKind}
 use Rattle.trace.specs.declared.Wanted.the-variants.{BadType, Thread}
 use Rattle.writing.proofs.SameNames.{SameNamed, names-agree}
 use Rattle.mending.specs.Mending.{afterCurrent, afterMissing, afterTypes}
@@ -28,17 +29,18 @@ use Rattle.mending.specs.Steps.{freeEntry, withoutBadTypes}
 use Rattle.mending.proofs.Each.{each-part, free-parts}
 use Rattle.mending.proofs.Slots.{current-aside, current-length, missing-front, missing-length}
 
--- an entry that is wanted as a thread has an allowed type, and a free one is neither
-thread-allowed : (s : List ℕ) (h : Header) (p i : ℕ) → isWanted (Thread p) s h i ≡ true → isWanted BadType s h i ≡ false
-unfolding isWantedAt isAllowedType
-thread-allowed s h p i hit =
-    let both = and-eq-true-iff (isInUse s (entryAt h i) && eqb (typeAt s (entryAt h i)) 1) (eqb (pointerAt (h .order) s (entryAt h i)) p) .0 hit in
-    let first = and-eq-true-iff (isInUse s (entryAt h i)) (eqb (typeAt s (entryAt h i)) 1) .0 (both .0) in
-    rw (eqb-true (typeAt s (entryAt h i)) 1 (first .1)) (and-false (isInUse s (entryAt h i)))
+-- type 1 is allowed, so an entry with a bad type is no thread's, live or gone; and a free one has none
+typed-no-thread : (s : List ℕ) (h : Header) (i : ℕ) → isAllowedType (typeAt s (entryAt h i)) ≡ false → (kind : ThreadKind) (p : ℕ) → isWanted (Thread kind p) s h i ≡ false
+unfolding isAllowedType
+typed-no-thread s h i bad kind p = thread-missed kind _ _ _ _ (λ is. true≢false (rw (is .1) at bad))
 
-free-unwanted : (s : List ℕ) (h : Header) (i : ℕ) → getD s (entryAt h i) 0 ≡ 1 → (isWanted BadType s h i ≡ false) × ((p : ℕ) → isWanted (Thread p) s h i ≡ false)
+bad-typed : (s : List ℕ) (h : Header) (i : ℕ) → isWanted BadType s h i ≡ true → isAllowedType (typeAt s (entryAt h i)) ≡ false
+unfolding isWantedAt
+bad-typed s h i bad = not-true _ (and-eq-true-iff (isInUse s (entryAt h i)) (not (isAllowedType (typeAt s (entryAt h i)))) .0 bad .1)
+
+free-typed : (s : List ℕ) (h : Header) (i : ℕ) → getD s (entryAt h i) 0 ≡ 1 → isWanted BadType s h i ≡ false
 unfolding isWantedAt isInUse
-free-unwanted s h i free = (rw (add-zero (entryAt h i), free), λ p. rw (add-zero (entryAt h i), free))
+free-typed s h i free = rw (add-zero (entryAt h i), free)
 
 module _ (s : List ℕ) (h : Header) (more : List Row) (passed : firstBroken (layoutRows h (length s) ++ more) ≡ Passed) where
   -- an entry ends where the slots begin, at the latest
@@ -99,21 +101,24 @@ module _ (s : List ℕ) (h : Header) (more : List Row) (passed : firstBroken (la
     copy-types = by (isWanted BadType s h i) refl
       where
         by : (b : Bool) → isWanted BadType s h i ≡ b → isWanted BadType t h i ≡ false
-        by true bad = free-unwanted t h i (copy-freed bad) .0
+        by true bad = free-typed t h i (copy-freed bad)
         by false right = same-wanted BadType (h .order) s t (entryAt h i) (λ k near aside. copy-entry right k (omega arith)) ∙ right
 
-    copy-thread : (p : ℕ) → isWanted (Thread p) t h i ≡ isWanted (Thread p) s h i
-    copy-thread p = by (isWanted BadType s h i) (isWanted (Thread p) s h i) refl refl
+    copy-thread : (kind : ThreadKind) (p : ℕ) → isWanted (Thread kind p) t h i ≡ isWanted (Thread kind p) s h i
+    copy-thread kind p = by (isWanted BadType s h i) refl
       where
-        by : (bad thread : Bool) → isWanted BadType s h i ≡ bad → isWanted (Thread p) s h i ≡ thread → isWanted (Thread p) t h i ≡ isWanted (Thread p) s h i
-        by false thread right is = same-wanted (Thread p) (h .order) s t (entryAt h i) (λ k near aside. copy-entry right k (omega arith))
-        by true false bad is = free-unwanted t h i (copy-freed bad) .1 p ∙ sym is
-        by true true bad is = absurd (true≢false (sym bad ∙ thread-allowed s h p i is))
+        by : (bad : Bool) → isWanted BadType s h i ≡ bad → isWanted (Thread kind p) t h i ≡ isWanted (Thread kind p) s h i
+        by false right = same-wanted (Thread kind p) (h .order) s t (entryAt h i) (λ k near aside. copy-entry right k (omega arith))
+        by true bad =
+            let wrong = bad-typed s h i bad in
+            typed-no-thread t h i (rw (copy-rest 1 (omega arith) (omega arith)) wrong) kind p ∙ sym (typed-no-thread s h i wrong kind p)
+
+    thread-entry : (kind : ThreadKind) (p : ℕ) → isWanted (Thread kind p) s h i ≡ true → Same s t (entryAt h i) (entrySize h)
+    thread-entry kind p thread = copy-entry (not-eq-not {b = false} .0 (λ bad. true≢false (sym thread ∙ typed-no-thread s h i (bad-typed s h i bad) kind p)))
 
   -- so every name is found as before, with its bytes
   pub copy-names : (p : ℕ) → SameNamed s t (nameOf s h p) (nameOf t h p)
   copy-names p =
       names-agree s t h (omega (arith, registry-within h (length s) more passed, slots-start h (length s) more passed, buffer-sized h (length s) more passed)) p
-      (lowest-same (isWanted (Thread p) t h) (isWanted (Thread p) s h) (entryCount h) (λ i below. copy-thread i below p))
-      (λ found k near aside.
-      copy-entry (threadEntry s h p) found (thread-allowed s h p (threadEntry s h p) (lowest-hit (isWanted (Thread p) s h) (entryCount h) found)) k near)
+      (λ kind. lowest-same (isWanted (Thread kind p) t h) (isWanted (Thread kind p) s h) (entryCount h) (λ i below. copy-thread i below kind p))
+      (λ kind found k near aside. thread-entry (threadEntry kind s h p) found kind p (lowest-hit (isWanted (Thread kind p) s h) (entryCount h) found) k near)

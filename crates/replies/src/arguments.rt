@@ -3,7 +3,7 @@ use console::number_at;
 use console::word_at;
 use events::Reading;
 use rows::above;
-use trace::Name;
+use rows::least;
 use words::Order;
 use writing::Format;
 use writing::Object;
@@ -51,6 +51,5 @@ pub(crate) fn object_in(arguments: &[u8]) -> Object {
 
 // The name that follows an object's 15 bytes.
 pub(crate) fn name_in(arguments: &[u8]) -> &[u8] {
-    let length = above(arguments.len(), 15);
-    finder::name_part(arguments, Name::Named { at: 15, length })
+    &arguments[least(15, arguments.len())..]
 }

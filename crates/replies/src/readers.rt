@@ -14,6 +14,7 @@ use trace::Found;
 use trace::Header;
 use trace::Name;
 use trace::Slot;
+use trace::ThreadKind;
 use words::Order;
 
 // A space and a number.
@@ -71,11 +72,27 @@ fn print_named(named: bool, bytes: &[u8]) {
     print_front(&text, n);
 }
 
+fn print_kind(kind: ThreadKind) {
+    match kind {
+        ThreadKind::Live => io::write_all(STDOUT_FILENO, b" live"),
+        ThreadKind::Gone => io::write_all(STDOUT_FILENO, b" gone"),
+    }
+    ;
+}
+
+// A name's text, and where there is one, its kind.
 fn print_name(dump: &[u8], name: Name) {
     let part = finder::name_part(dump, name);
     match name {
         Name::Nameless => print_named(false, part),
-        Name::Named { at: _, length: _ } => print_named(true, part),
+        Name::Named {
+            kind,
+            at: _,
+            length: _,
+        } => {
+            print_named(true, part);
+            print_kind(kind);
+        }
     }
 }
 
@@ -128,7 +145,11 @@ pub(crate) fn print_found(dump: &[u8], arguments: &[u8]) {
         Found::Searched(name) => {
             print_name(dump, name);
             print_space(size);
-            if let Name::Named { at, length: _ } = name {
+            if let Name::Named {
+                kind: _,
+                at,
+                length: _,
+            } = name {
                 print_space(at as u64);
             }
         }

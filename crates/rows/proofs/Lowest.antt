@@ -1,13 +1,13 @@
 -- The laws of a search for the lowest index, and of a count, for any test.
 use Prim.Native.Nat.{ℕ, zero, suc, _+_, _-_, _<_, _≤_, min}
-use mathlib.Core.Bool.{Bool, true, false, cond}
+use mathlib.Core.Bool.{Bool, true, false, cond, not, and-eq-true-iff, and-false, and-true, true≢false}
 use mathlib.Core.Path.{_≡_, refl, sym, ap, ap₂, _∙_}
 use native.Mathlib.Decide.{decLt, ℕ-discrete}
 use native.Mathlib.Numerals.{add-one}
 use native.Mathlib.Omega.{arith}
-use borrow.Author.Tests.{le-leb, lt-leb, lt-ltb, le-ltb, ltb-false}
-use lib.Dec.{leb, ltb}
-use Rattle.rows.specs.Lowest.{lowest, lowestOn, count}
+use borrow.Author.Tests.{eq-eqb, ne-eqb, le-leb, lt-leb, lt-ltb, le-ltb, ltb-false}
+use lib.Dec.{eqb, leb, ltb}
+use Rattle.rows.specs.Lowest.{butFor, lowest, lowestOn, count}
 
 -- a search that meets no hit ends at the count
 pub lowest-none : (t : ℕ → Bool) (n : ℕ) → ((k : ℕ) → k < n → t k ≡ false) → n ≡ lowest t n
@@ -92,6 +92,19 @@ lowest-more t u n i within same hit =
     by : Dec (lowest t n < i) → u (min (lowest t n) i) ≡ true
     by (yes first) = let e : min (lowest t n) i ≡ lowest t n = omega arith in rw e (same (lowest t n) (omega arith) ∙ lowest-hit t n (omega arith))
     by (no later) = let e : min (lowest t n) i ≡ i = omega arith in rw e hit
+
+-- and with one hit less, where it ends but for that one
+pub lowest-but : (t u : ℕ → Bool) (n i : ℕ) → ((k : ℕ) → (k ≡ i → ⊥) → u k ≡ t k) → u i ≡ false → lowest u n ≡ lowest (butFor t i) n
+lowest-but t u n i same miss = lowest-same u (butFor t i) n (λ k below. by k (ℕ-discrete k i))
+  where
+    by : (k : ℕ) → Dec (k ≡ i) → u k ≡ butFor t i k
+    by k (yes here) = rw here (miss ∙ rw (eq-eqb i i refl, and-false))
+    by k (no other) = same k other ∙ rw (ne-eqb k i other, and-true)
+
+pub but-hit : (t : ℕ → Bool) (i k : ℕ) → butFor t i k ≡ true → (t k ≡ true) × (k ≡ i → ⊥)
+but-hit t i k hit =
+    let both = and-eq-true-iff (t k) (not (eqb k i)) .0 hit in
+    (both .0, λ here. true≢false (sym (both .1) ∙ rw (eq-eqb k i here)))
 
 -- one index more
 pub count-more : (t : ℕ → Bool) (n : ℕ) → count t (n + 1) ≡ count t n + cond (t n) 1 0

@@ -88,6 +88,7 @@ fn line_in(case: &[u8]) -> Line {
         id: word_at(case, 25),
         ptr: word_at(case, 29),
         by: by,
+        gone: words::byte(case, 55, 0) != 0,
         field: word_at(case, 34),
         info: info,
     }
@@ -98,10 +99,10 @@ fn print_line_case(case: &[u8]) -> usize
     ensures { λ r. ⌜ (1 ≤ r) × (r < 2 ^ 17) ⌝ }
 {
     let named = words::byte(case, 54, 0) != 0;
-    let size = words::half(case, 55, Order::Little) as usize;
-    let end = 57 + size;
+    let size = words::half(case, 56, Order::Little) as usize;
+    let end = 58 + size;
     if end <= case.len() {
-        print_line(line_in(case), named, &case[57..end]);
+        print_line(line_in(case), named, &case[58..end]);
     }
     end
 }

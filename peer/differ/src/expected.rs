@@ -116,7 +116,11 @@ fn name(found: Option<&FoundName>) -> Name {
     Name {
         refusal: 0,
         place: 0,
-        named: u32::from(found.is_some()),
+        kind: match found {
+            None => raw::NAMELESS,
+            Some(name) if name.gone => raw::GONE,
+            Some(_) => raw::LIVE,
+        },
         at: found.map_or(0, |name| name.at),
         length: found.map_or(0, |name| name.bytes.len()),
     }
@@ -134,7 +138,7 @@ fn event(answer: &EventAnswer) -> Event {
             Context::Isr => raw::ISR,
             Context::Thread => raw::THREAD,
         },
-        named: name.named,
+        name_kind: name.kind,
         name_at: name.at,
         name_length: name.length,
     }

@@ -9,6 +9,7 @@ mod expected;
 mod lent;
 mod loan;
 mod mends;
+mod names;
 mod number;
 mod pieces;
 mod plain;

@@ -1,6 +1,7 @@
 //! Counts of what was compared.
 
 use crate::mends::Mends;
+use crate::names::Names;
 use peer::answers::Reply;
 use peer::call::Call;
 use peer::Header;
@@ -41,6 +42,7 @@ pub struct Tally {
     refusals: [[u64; REFUSALS]; KINDS.len()],
     cut: [[u64; ENDS.len()]; KINDS.len()],
     mends: Mends,
+    names: Names,
 }
 
 impl Tally {
@@ -50,6 +52,7 @@ impl Tally {
         if let Reply::Mend { result, .. } = reply {
             self.mends.count(result);
         }
+        self.names.count(reply);
     }
 
     /// The reply is that to the whole check.
@@ -104,6 +107,7 @@ impl Tally {
             missing.push("a state with changed fields".to_string());
         }
         missing.extend(self.mends.missing());
+        missing.extend(self.names.missing());
         missing
     }
 
@@ -186,6 +190,6 @@ impl fmt::Display for Tally {
             writeln!(text, "{:>10} of {} at the {}", self.cut_at(end), CUT, name)?;
         }
         writeln!(text, "{:>10} states with changed fields", self.states)?;
-        write!(text, "{}", self.mends)
+        write!(text, "{}{}", self.mends, self.names)
     }
 }

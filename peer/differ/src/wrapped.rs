@@ -142,9 +142,10 @@ fn event(dump: &[u8], event: &lepsaino::Event) -> EventAnswer {
 }
 
 /// The name is a part of the dump, so the two addresses tell where.
-fn found(dump: &[u8], name: &[u8]) -> FoundName {
+fn found(dump: &[u8], name: lepsaino::Name) -> FoundName {
     FoundName {
-        bytes: name.to_vec(),
-        at: name.as_ptr() as usize - dump.as_ptr() as usize,
+        bytes: name.bytes.to_vec(),
+        at: name.bytes.as_ptr() as usize - dump.as_ptr() as usize,
+        gone: name.gone,
     }
 }

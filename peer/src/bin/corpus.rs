@@ -1,6 +1,6 @@
 //! Writes the file of cases, the answers to it and the keys in them, from a fixed seed.
 
-use peer::answers::{answer, Reply};
+use peer::answers::{answer, FoundName, MendAnswer, Reply};
 use peer::call::Call;
 use peer::case::Case;
 use peer::generate::{document, Generator};
@@ -11,9 +11,10 @@ use std::collections::HashSet;
 use std::path::Path;
 
 const SEED: u64 = 9_007_199_254_740_992;
-const GENERATED: usize = 4_500;
+const GENERATED: usize = 4_400;
 const LETTERS: &[u8; 11] = b"cenlafwoxbm";
 const REFUSALS: usize = 26;
+const NAME_KINDS: [&str; 3] = ["none", "live", "gone"];
 
 #[derive(Default)]
 struct Corpus {
@@ -29,6 +30,8 @@ struct Corpus {
     mended: usize,
     /// Mendings with each count above 0.
     with_count: [usize; COUNTS.len()],
+    /// Replies about one event or one name with each kind of name.
+    with_name: [usize; NAME_KINDS.len()],
 }
 
 impl Corpus {
@@ -79,15 +82,26 @@ impl Corpus {
             self.refusals[refusal.number as usize] += 1;
             self.with_place[refusal.number as usize] += usize::from(refusal.place > 0);
         }
-        if let Reply::Mend {
-            result: Ok(answer), ..
-        } = reply
-        {
-            self.mended += 1;
-            for (sum, count) in self.with_count.iter_mut().zip(answer.mended.counts()) {
-                *sum += usize::from(count > 0);
-            }
+        match reply {
+            Reply::Mend {
+                result: Ok(answer), ..
+            } => self.tally_mended(answer),
+            Reply::Event(Ok(event)) => self.tally_name(event.name.as_ref()),
+            Reply::FindName(Ok(name)) => self.tally_name(name.as_ref()),
+            _ => {}
         }
+    }
+
+    fn tally_mended(&mut self, answer: &MendAnswer) {
+        self.mended += 1;
+        for (sum, count) in self.with_count.iter_mut().zip(answer.mended.counts()) {
+            *sum += usize::from(count > 0);
+        }
+    }
+
+    fn tally_name(&mut self, name: Option<&FoundName>) {
+        let kind = name.map_or(0, |name| 1 + usize::from(name.gone));
+        self.with_name[kind] += 1;
     }
 
     fn table(&self) {
@@ -105,6 +119,9 @@ impl Corpus {
         println!("mended {}", self.mended);
         for (name, count) in COUNTS.iter().zip(self.with_count) {
             println!("mended, {} above 0: {}", name, count);
+        }
+        for (kind, count) in NAME_KINDS.iter().zip(self.with_name) {
+            println!("events and names found, {}: {}", kind, count);
         }
         println!(
             "keys of whole listings {}, repeated {}",
@@ -147,6 +164,8 @@ fn main() -> std::io::Result<()> {
     assert!(often, "a refusal is given too seldom");
     let often = corpus.with_count.iter().all(|&count| count > 100);
     assert!(often, "a rule of mending is met too seldom");
+    let often = corpus.with_name.iter().all(|&count| count > 100);
+    assert!(often, "a kind of name is found too seldom");
     corpus.write(Path::new(&folder))?;
     corpus.table();
     Ok(())

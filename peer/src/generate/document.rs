@@ -1,7 +1,8 @@
-//! The cases that the documents themselves name: 01's whole case, both sides of each line, and the cut dumps, the mending and the first quoted key of 02.
+//! The cases that the documents themselves name: 01's whole case, both sides of each line, and the cut dumps, the mending, the first quoted key and the names of removed threads of 02.
 
 use super::cut_cases::{cut_whole, far_ends};
 use super::draft::Draft;
+use super::gone_cases::gone_cases;
 use super::mend_cases::mend_cases;
 use super::microseconds::last_bare_ticks;
 use crate::call::{Call, Registration};
@@ -27,6 +28,8 @@ pub fn cases() -> Vec<Case> {
     let mut cases = vec![
         little,
         big,
+        removed_case("its thread removed", ByteOrder::Little, 13),
+        removed_case("its thread removed, big-endian", ByteOrder::Big, 14),
         masks(),
         top_of_memory(),
         smallest_buffer(80),
@@ -43,6 +46,7 @@ pub fn cases() -> Vec<Case> {
     ];
     cases.extend(cut);
     cases.extend(mend_cases());
+    cases.extend(gone_cases());
     cases
 }
 
@@ -86,6 +90,31 @@ fn line(rate: u32, unit: u32, serial: u64, position: usize) -> Call {
 }
 
 fn whole_case(title: &str, order: ByteOrder, unit: u32) -> Case {
+    let mut draft = whole_writes(title, order);
+    whole_reads(&mut draft, unit);
+    draft.make(Call::Bytes);
+    draft.finish()
+}
+
+/// The thread's name stays after its removal, until the entry serves another.
+fn removed_case(title: &str, order: ByteOrder, unit: u32) -> Case {
+    let pointer = 0x2000_1000;
+    let mut draft = whole_writes(title, order);
+    draft.make(Call::Remove { pointer });
+    whole_reads(&mut draft, unit);
+    for (registered, name) in [(pointer, b"fan"), (0x2000_2000, b"tap")] {
+        draft.make(thread(registered, name));
+        draft.make(Call::FindName { pointer });
+        draft.make(Call::Event { position: 0 });
+        draft.make(Call::Remove {
+            pointer: registered,
+        });
+    }
+    draft.make(Call::Event { position: 2 });
+    draft.finish()
+}
+
+fn whole_writes(title: &str, order: ByteOrder) -> Draft {
     let plan = Plan {
         order,
         entries: 1,
@@ -106,6 +135,10 @@ fn whole_case(title: &str, order: ByteOrder, unit: u32) -> Case {
         0,
     ]));
     draft.make(Call::Record([0x2000_2000, 16, 6, 20, 7, 0, 0, 0]));
+    draft
+}
+
+fn whole_reads(draft: &mut Draft, unit: u32) {
     draft.make(Call::Check);
     draft.make(Call::FindName {
         pointer: 0x2000_1000,
@@ -115,8 +148,6 @@ fn whole_case(title: &str, order: ByteOrder, unit: u32) -> Case {
         draft.make(line(3_000_000, unit, 0, position));
     }
     draft.make(listing(3_000_000, unit, 0));
-    draft.make(Call::Bytes);
-    draft.finish()
 }
 
 fn masks() -> Case {

@@ -11,6 +11,7 @@ use crate::limits::{INIT_POINTER, ISR_POINTER};
 use crate::line::line;
 use crate::listing::listing;
 use crate::reading::Reading;
+use crate::registry::entries;
 
 pub struct Draft {
     title: String,
@@ -61,9 +62,27 @@ impl Draft {
         self.make(Call::Event { position });
     }
 
+    /// Often the name of a free entry's thread.
     pub fn find_name(&mut self, chance: &mut Chance) {
-        let pointer = self.some_pointer(chance);
+        let free = self.free_pointers();
+        let pointer = if !free.is_empty() && chance.one_in(3) {
+            chance.pick(&free)
+        } else {
+            self.some_pointer(chance)
+        };
         self.make(Call::FindName { pointer });
+    }
+
+    /// The pointers of the free entries, or none where the dump is refused.
+    fn free_pointers(&self) -> Vec<u32> {
+        let layout = match Layout::of(&self.buffer) {
+            Ok(layout) => layout,
+            Err(_) => return Vec::new(),
+        };
+        entries(&self.buffer, &layout)
+            .filter(|entry| !entry.in_use())
+            .map(|entry| entry.pointer())
+            .collect()
     }
 
     /// One of the shared pointers, or one that is often none of them.

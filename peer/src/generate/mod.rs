@@ -6,6 +6,8 @@ pub mod cut_cases;
 pub mod damage;
 pub mod document;
 pub mod draft;
+pub mod gone;
+pub mod gone_cases;
 pub mod mend_cases;
 pub mod mending;
 pub mod microseconds;
@@ -47,9 +49,11 @@ impl Generator {
 
     pub fn next_case(&mut self) -> Case {
         let mut case = match self.chance.below(242) {
-            0..=31 => reads::sound_dump(self),
-            32..=43 => reads::many_threads(self),
-            44..=93 => reads::damaged_once(self),
+            0..=23 => reads::sound_dump(self),
+            24..=35 => gone::gone_threads(self),
+            36..=45 => reads::many_threads(self),
+            46..=90 => reads::damaged_once(self),
+            91..=93 => gone::comes_back(self),
             94..=119 => reads::damaged_twice(self),
             120..=131 => cut::cut_dump(self),
             132..=143 => reads::flipped_bits(self),

@@ -149,9 +149,9 @@ pub fn cut_or_lengthened(generator: &mut Generator) -> Case {
     let (mut buffer, pointers) = small_sound(chance);
     let length = buffer.len();
     let fill = chance.byte();
-    match chance.below(24) {
+    match chance.below(25) {
         0 => buffer.resize(65_536, fill),
-        1 => buffer.resize(65_537, fill),
+        1 | 24 => buffer.resize(65_537, fill),
         2 => buffer.clear(),
         3 | 4 => buffer.truncate(47),
         5 | 6 => buffer.truncate(48),

@@ -82,9 +82,12 @@ fn leftover(chance: &mut Chance) -> Vec<u8> {
 }
 
 fn entry(chance: &mut Chance, name_size: usize, pointers: &[u32]) -> EntrySketch {
-    let free = chance.one_in(4);
-    // A free entry may keep old contents, even such as no in-use entry may have.
-    let kind = if free && chance.one_in(2) {
+    if chance.one_in(15) {
+        return fresh_entry(name_size);
+    }
+    let free = chance.one_in(3);
+    // A free entry keeps old contents, often a thread's, and may have such as no in-use entry may have.
+    let kind = if free && chance.one_in(4) {
         values::bad_kind(chance)
     } else {
         values::kind(chance)
@@ -100,6 +103,18 @@ fn entry(chance: &mut Chance, name_size: usize, pointers: &[u32]) -> EntrySketch
         pointer: chance.pick(pointers),
         parameters: [chance.below(3) as u32, chance.word()],
         name_field: name_field(chance, name_size),
+    }
+}
+
+/// As formatting leaves it.
+fn fresh_entry(name_size: usize) -> EntrySketch {
+    EntrySketch {
+        flag: FREE,
+        kind: 0,
+        reserved: [0; 2],
+        pointer: 0,
+        parameters: [0; 2],
+        name_field: vec![0; name_size],
     }
 }
 
@@ -142,20 +157,23 @@ pub fn event(chance: &mut Chance, stamp: u32, pointers: &[u32]) -> [u32; 8] {
         1 | 2 => ISR_POINTER,
         _ => chance.pick(pointers),
     };
-    let mut field = if chance.one_in(2) {
-        chance.pick(pointers)
-    } else {
-        16
-    };
-    if chance.one_in(12) {
-        field = chance.pick(&[0, u32::MAX]);
-    }
     let mut words = [(); 8].map(|_| values::information(chance));
     words[0] = pointer.max(1);
-    words[1] = field;
+    words[1] = field(chance, pointer, pointers);
     words[2] = values::event_id(chance);
     words[3] = stamp;
     words
+}
+
+/// In an isr event the pointer of a thread; 0 is the pointer of an entry that never was in use.
+fn field(chance: &mut Chance, pointer: u32, pointers: &[u32]) -> u32 {
+    match chance.below(12) {
+        0 => chance.pick(&[0, u32::MAX]),
+        1 if pointer == ISR_POINTER => 0,
+        2..=6 => chance.pick(pointers),
+        _ if pointer == ISR_POINTER => chance.pick(pointers),
+        _ => 16,
+    }
 }
 
 /// Stamps, oldest first; bits above the mask do not count and may be anything.

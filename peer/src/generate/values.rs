@@ -78,8 +78,13 @@ pub fn kind(chance: &mut Chance) -> u8 {
     if chance.below(4) < 3 {
         1
     } else {
-        chance.pick(&[2, 3, 8, 13, 14, 21, 22, 28])
+        other_kind(chance)
     }
+}
+
+/// An allowed type, but no thread's.
+pub fn other_kind(chance: &mut Chance) -> u8 {
+    chance.pick(&[2, 3, 8, 13, 14, 21, 22, 28])
 }
 
 pub fn bad_kind(chance: &mut Chance) -> u8 {

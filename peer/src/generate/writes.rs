@@ -31,7 +31,7 @@ pub fn every_write(chance: &mut Chance, draft: &mut Draft) {
     remove(chance, draft);
 }
 
-fn record(chance: &mut Chance, draft: &mut Draft, stamp: u32) {
+pub fn record(chance: &mut Chance, draft: &mut Draft, stamp: u32) {
     let pointers = if draft.pointers.is_empty() {
         vec![1]
     } else {
@@ -52,19 +52,24 @@ fn record(chance: &mut Chance, draft: &mut Draft, stamp: u32) {
 
 fn register(chance: &mut Chance, draft: &mut Draft) {
     let size = Header::read(&padded(&draft.buffer)).map_or(8, |header| header.name_size);
-    let wrong_kind = chance.one_in(8);
-    let registration = Registration {
-        kind: if wrong_kind {
-            values::bad_kind(chance)
-        } else {
-            values::kind(chance)
-        },
-        pointer: draft.some_pointer(chance),
+    let kind = if chance.one_in(8) {
+        values::bad_kind(chance)
+    } else {
+        values::kind(chance)
+    };
+    let pointer = draft.some_pointer(chance);
+    let name = name_to_register(chance, usize::from(size.clamp(4, 64)));
+    draft.make(registration(chance, kind, pointer, name));
+}
+
+pub fn registration(chance: &mut Chance, kind: u8, pointer: u32, name: Vec<u8>) -> Call {
+    Call::Register(Registration {
+        kind,
+        pointer,
         parameters: [chance.word(), chance.below(3) as u32],
         reserved: [chance.byte(), chance.byte()],
-        name: name_to_register(chance, usize::from(size.clamp(4, 64))),
-    };
-    draft.make(Call::Register(registration));
+        name,
+    })
 }
 
 /// The front of a buffer, with zeros where it is too short for a header.
@@ -80,8 +85,7 @@ fn remove(chance: &mut Chance, draft: &mut Draft) {
 }
 
 /// A sound plan for formatting, and a buffer that has room for it.
-fn plan_and_buffer(chance: &mut Chance, slots: usize) -> (Plan, Vec<u8>) {
-    let entries = chance.below(5);
+pub fn plan_and_buffer(chance: &mut Chance, entries: usize, slots: usize) -> (Plan, Vec<u8>) {
     let name_size = values::name_size(chance);
     let needed = 48 + entries * (16 + usize::from(name_size)) + 32 * slots;
     let leftover = if chance.one_in(3) {
@@ -103,8 +107,8 @@ fn plan_and_buffer(chance: &mut Chance, slots: usize) -> (Plan, Vec<u8>) {
 /// Format, then writes at true times that go on, with registrations, removals and readings between.
 pub fn history(generator: &mut Generator) -> Case {
     let chance = &mut generator.chance;
-    let slots = chance.between(1, 5);
-    let (plan, buffer) = plan_and_buffer(chance, slots);
+    let (entries, slots) = (chance.below(5), chance.between(1, 5));
+    let (plan, buffer) = plan_and_buffer(chance, entries, slots);
     let mut draft = Draft::new("history", buffer, values::pointers(chance));
     draft.make(Call::Format(plan));
     let mut time = chance.long() >> 28;
@@ -120,7 +124,7 @@ pub fn history(generator: &mut Generator) -> Case {
 
 fn history_step(generator: &mut Generator, draft: &mut Draft, mask: u32, time: &mut u64) {
     let chance = &mut generator.chance;
-    match chance.below(17) {
+    match chance.below(18) {
         0..=7 => {
             *time += true_gap(chance, mask);
             record(chance, draft, *time as u32);
@@ -129,32 +133,33 @@ fn history_step(generator: &mut Generator, draft: &mut Draft, mask: u32, time: &
         11..=12 => remove(chance, draft),
         13 => draft.check(),
         14 => draft.find_name(chance),
-        15 => draft.mend(chance),
+        15 => draft.event(chance),
+        16 => draft.mend(chance),
         _ => draft.listing(chance, &mut generator.readings),
     }
 }
 
-/// A registry that fills up, refuses, is emptied and serves again.
+/// A registry that fills up, refuses, is emptied and serves again; the names of removed threads stay until then.
 pub fn registry(generator: &mut Generator) -> Case {
     let chance = &mut generator.chance;
-    let (mut plan, mut buffer) = plan_and_buffer(chance, 1);
-    plan.entries = chance.between(2, 6);
-    let fill = chance.byte();
-    buffer.resize(
-        48 + plan.entries * (16 + usize::from(plan.name_size)) + 32,
-        fill,
-    );
-    let pointers = (0..6).map(|index| 0x2000_1000 + 0x80 * index).collect();
+    let entries = chance.between(2, 6);
+    let (plan, buffer) = plan_and_buffer(chance, entries, 2);
+    // A few pointers come back while another entry still has them; many fill the registry.
+    let count = chance.pick(&[2, 3, 6, 6]);
+    let pointers = (0..count).map(|index| 0x2000_1000 + 0x80 * index).collect();
     let mut draft = Draft::new("registry", buffer, pointers);
     draft.make(Call::Format(plan));
     for _ in 0..chance.between(6, 14) {
-        match chance.below(10) {
+        match chance.below(12) {
             0..=5 => register(chance, &mut draft),
-            6..=8 => remove(chance, &mut draft),
+            6..=9 => remove(chance, &mut draft),
             _ => draft.find_name(chance),
         }
     }
-    record(chance, &mut draft, 0);
+    for stamp in 0..2 {
+        record(chance, &mut draft, stamp);
+    }
+    draft.event(chance);
     draft.listing(chance, &mut generator.readings);
     draft.finish()
 }
@@ -176,8 +181,8 @@ fn true_gap(chance: &mut Chance, mask: u32) -> u64 {
 /// Formatting on both sides of each of its limits, and the first write after it.
 pub fn formatting(generator: &mut Generator) -> Case {
     let chance = &mut generator.chance;
-    let slots = chance.between(1, 3);
-    let (mut plan, mut buffer) = plan_and_buffer(chance, slots);
+    let (entries, slots) = (chance.below(5), chance.between(1, 3));
+    let (mut plan, mut buffer) = plan_and_buffer(chance, entries, slots);
     let entry = 16 + usize::from(plan.name_size);
     let fill = chance.byte();
     match chance.below(15) {

@@ -32,13 +32,19 @@ pub enum Context {
     Thread,
 }
 
-/// One event; its name is a part of the dump.
+/// A thread's name, which is a part of the dump; the thread is gone where its entry is free again.
+#[derive(Clone, Copy, Debug, PartialEq, Eq)]
+pub struct Name<'dump> {
+    pub bytes: &'dump [u8],
+    pub gone: bool,
+}
+
 #[derive(Clone, Copy, Debug, PartialEq, Eq)]
 pub struct Event<'dump> {
     pub slot: Slot,
     pub ticks: u64,
     pub context: Context,
-    pub name: Option<&'dump [u8]>,
+    pub name: Option<Name<'dump>>,
 }
 
 /// The length of a mended copy, and what was mended.
@@ -103,18 +109,28 @@ pub(crate) fn event(dump: &[u8], answer: raw::Event) -> Result<Event<'_>, Refusa
         slot: answer.slot,
         ticks: answer.ticks,
         context: context(answer.context),
-        name: part(dump, answer.named, answer.name_at, answer.name_length),
+        name: part(dump, answer.name_kind, answer.name_at, answer.name_length),
     })
 }
 
-pub(crate) fn name(dump: &[u8], answer: raw::Name) -> Result<Option<&[u8]>, Refusal> {
+pub(crate) fn name(dump: &[u8], answer: raw::Name) -> Result<Option<Name<'_>>, Refusal> {
     unless_refused(answer.refusal, answer.place, || {
-        part(dump, answer.named, answer.at, answer.length)
+        part(dump, answer.kind, answer.at, answer.length)
     })
 }
 
-fn part(dump: &[u8], named: u32, at: usize, length: usize) -> Option<&[u8]> {
-    (named != 0).then(|| &dump[at..][..length])
+fn part(dump: &[u8], kind: u32, at: usize, length: usize) -> Option<Name<'_>> {
+    let gone = match kind {
+        raw::NAMELESS => return None,
+        raw::LIVE => false,
+        raw::GONE => true,
+        _ => panic!(
+            "the library gave the kind of name {}, which the header does not name",
+            kind
+        ),
+    };
+    let bytes = &dump[at..][..length];
+    Some(Name { bytes, gone })
 }
 
 fn context(number: u32) -> Context {

@@ -10,7 +10,7 @@ mod pieces;
 mod readers;
 mod writers;
 
-pub use answers::{Checked, Context, Event, Mended, Refusal};
+pub use answers::{Checked, Context, Event, Mended, Name, Refusal};
 pub use pieces::Pieces;
 pub use raw::{Format, Object, Reading, Slot};
 pub use readers::{check, event, find_name, line, listing, mend, number};

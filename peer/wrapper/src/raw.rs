@@ -44,6 +44,10 @@ pub const INIT: u32 = 1;
 pub const ISR: u32 = 2;
 pub const THREAD: u32 = 3;
 
+pub const NAMELESS: u32 = 0;
+pub const LIVE: u32 = 1;
+pub const GONE: u32 = 2;
+
 #[repr(C)]
 #[derive(Clone, Copy, Debug, Default, PartialEq, Eq)]
 pub struct Event {
@@ -52,7 +56,7 @@ pub struct Event {
     pub slot: Slot,
     pub ticks: u64,
     pub context: u32,
-    pub named: u32,
+    pub name_kind: u32,
     pub name_at: usize,
     pub name_length: usize,
 }
@@ -62,7 +66,7 @@ pub struct Event {
 pub struct Name {
     pub refusal: u32,
     pub place: usize,
-    pub named: u32,
+    pub kind: u32,
     pub at: usize,
     pub length: usize,
 }

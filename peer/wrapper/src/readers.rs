@@ -1,6 +1,6 @@
 //! The calls that read a dump.
 
-use crate::answers::{self, Checked, Event, Mended, Refusal};
+use crate::answers::{self, Checked, Event, Mended, Name, Refusal};
 use crate::raw::{self, Reading};
 
 /// Checks a dump: 1 to 7, 26, 8, 9, 26, 10 to 13.
@@ -17,8 +17,8 @@ pub fn event(dump: &[u8], position: usize) -> Result<Event<'_>, Refusal> {
     })
 }
 
-/// The name of the thread with a pointer, as the part of the dump that it is: checks 1 to 11 with 26.
-pub fn find_name(dump: &[u8], pointer: u32) -> Result<Option<&[u8]>, Refusal> {
+/// The name of the lowest live thread with a pointer, or else of the lowest that is gone: checks 1 to 11 with 26.
+pub fn find_name(dump: &[u8], pointer: u32) -> Result<Option<Name<'_>>, Refusal> {
     // SAFETY: the slice may be read for its length, and nothing writes it while it is borrowed.
     answers::name(dump, unsafe {
         raw::lepsaino_find_name(dump.as_ptr(), dump.len(), pointer)

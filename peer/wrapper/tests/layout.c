@@ -1,4 +1,4 @@
-/* Prints where a C compiler puts the fields of the header's structs, and the numbers of the contexts. */
+/* Prints where a C compiler puts the fields of the header's structs, and the numbers of the contexts and of the kinds of name. */
 #include <stdio.h>
 
 #include "lepsaino.h"
@@ -30,7 +30,7 @@ static void answers(void)
     SIZE(name);
     FIELD(name, refusal);
     FIELD(name, place);
-    FIELD(name, named);
+    FIELD(name, kind);
     FIELD(name, at);
     FIELD(name, length);
     SIZE(mended);
@@ -62,7 +62,7 @@ static void events(void)
     FIELD(event, slot);
     FIELD(event, ticks);
     FIELD(event, context);
-    FIELD(event, named);
+    FIELD(event, name_kind);
     FIELD(event, name_at);
     FIELD(event, name_length);
 }
@@ -116,5 +116,6 @@ int main(void)
     arguments();
     states();
     printf("contexts %d %d %d\n", LEPSAINO_INIT, LEPSAINO_ISR, LEPSAINO_THREAD);
+    printf("kinds of name %d %d %d\n", LEPSAINO_NAMELESS, LEPSAINO_LIVE, LEPSAINO_GONE);
     return 0;
 }

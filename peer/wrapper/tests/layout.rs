@@ -26,10 +26,10 @@ fn from_rust() -> String {
         layout!("answer", Answer, refusal place value),
         layout!("checked", Checked, refusal place big id mask base registry_start name_size
             registry_end buffer_start buffer_end current events),
-        layout!("name", Name, refusal place named at length),
+        layout!("name", Name, refusal place kind at length),
         layout!("mended", Mended, refusal place length missing current types ids packed moved),
         layout!("slot", Slot, pointer field id stamp first second third fourth),
-        layout!("event", Event, refusal place slot ticks context named name_at name_length),
+        layout!("event", Event, refusal place slot ticks context name_kind name_at name_length),
         layout!("reading", Reading, rate unit serial),
         layout!("format", Format, big base mask name_size entries),
         layout!("object", Object, object_type pointer parameter_one parameter_two
@@ -37,6 +37,7 @@ fn from_rust() -> String {
         layout!("pieces", Pieces, header entries entry_size start slots slot_size current front
             came entries_passed bad_type slots_passed unused behind no_id total),
         format!("contexts {} {} {}\n", INIT, ISR, THREAD),
+        format!("kinds of name {} {} {}\n", NAMELESS, LIVE, GONE),
     ]
     .concat()
 }

@@ -37,12 +37,25 @@ enum-known-wanted-2 c = search needs
 has-pointer-requires-2 : tie.Need-has-pointer-requires-2
 has-pointer-requires-2 c κs = search needs
 
+in-use-requires-3 : tie.Need-in-use-requires-3
+in-use-requires-3 c κs = search needs
+
+is-of-kind-requires : tie.Need-is-of-kind-requires
+is-of-kind-requires c κs = search needs
+
 is-thread-requires : tie.Need-is-thread-requires
 is-thread-requires c κs = search needs
 
+both-requires : tie.Need-both-requires
+both-requires c κs = search needs
+
 returns-2 : tie.Need-returns-2
 unfolding isWantedAt
-returns-2 c = rw (c .before .before .before .before .wanted2 .given .1, sym (c .before .before .has-pointer2 .ensures) ∙ c .before .if2 .taken, and-true) (c .is-thread .ensures)
+returns-2 c =
+    let kind = c .before .before in
+    let asked = kind .before .before in
+    rw (asked .before .before .before .wanted2 .given .1, sym (asked .before .has-pointer2 .ensures) ∙ asked .if2 .taken, and-true)
+    (rw (kind .is-of-kind .ensures, c .before .is-thread .ensures, kind .before .in-use3 .ensures) at (c .both .ensures))
 
 returns-3 : tie.Need-returns-3
 unfolding isWantedAt
@@ -74,7 +87,10 @@ is-wanted-spec =
     returns
     enum-known-wanted-2
     has-pointer-requires-2
+    in-use-requires-3
+    is-of-kind-requires
     is-thread-requires
+    both-requires
     returns-2
     returns-3
     returns-4

@@ -13,13 +13,17 @@ enum-told c = search needs
 enum-known-name : tie.Need-enum-known-name
 enum-known-name c = search needs
 
+kind-number-requires : tie.Need-kind-number-requires
+kind-number-requires c κs = search needs
+
 returns : tie.Need-returns
 unfolding nameAnswer foundTold nameNumbers
 returns c = rw (c .enum-told .given .1)
 
 returns-2 : tie.Need-returns-2
 unfolding nameAnswer foundTold nameNumbers
-returns-2 c = sym (ap (λ name. nameAnswer (Searched name)) (c .before .name .given .1))
+returns-2 c = rw (c .kind-number .ensures) (sym (ap (λ name. nameAnswer (Searched name)) (c .before .before .name .given .1)))
 
 pub name-given-spec : {M : Type 1} → statement M
-name-given-spec = tie.close (tie.spec enum-told enum-known-name returns returns-2)
+name-given-spec =
+    tie.close (tie.spec enum-told enum-known-name kind-number-requires returns returns-2)

@@ -28,8 +28,11 @@ add-at c = omega (arith, room (c .before))
 is-thread-requires : tie.Need-is-thread-requires
 is-thread-requires c κs = search needs
 
+kind-at-requires : tie.Need-kind-at-requires
+kind-at-requires c κs = search needs
+
 add-word : tie.Need-add-word
-add-word c = omega (arith, room (c .before .before .before))
+add-word c = omega (arith, room (c .before .before .before .before))
 
 word-requires : tie.Need-word-requires
 word-requires c κs = search needs
@@ -66,12 +69,13 @@ element-write-links-2 c = search needs
 
 returns : tie.Need-returns
 returns c =
-    let g = c .before .before .before .before .before .before in
+    let kind = c .before .before .before in
+    let g = kind .before .before .before .before in
     let s = g .before .before in
     let place = c .before .place-of in
     link-thread (s .args .dump .now) (s .args .header) (s .args .entry) (s .args .links .now) (s .pre .0) (s .pre .1) (place .result)
-    (rw (c .before .before .word .ensures, g .geometry-of .ensures) at (place .ensures .0)) (place .ensures .1)
-    (rw (g .geometry-of .ensures) at (sym (c .before .before .before .before .is-thread .ensures) ∙ c .before .before .before .if1 .taken))
+    (rw (c .before .before .word .ensures, kind .kind-at .ensures, g .geometry-of .ensures) at (place .ensures .0)) (place .ensures .1)
+    (rw (g .geometry-of .ensures) at (sym (kind .before .before .is-thread .ensures) ∙ kind .before .if1 .taken))
 
 returns-2 : tie.Need-returns-2
 returns-2 c =
@@ -88,6 +92,7 @@ link-spec =
     mul-at
     add-at
     is-thread-requires
+    kind-at-requires
     add-word
     word-requires
     place-of-requires
