@@ -1,5 +1,5 @@
 """What we aim at: a competitor's time divided by ours is at least so much."""
-from titles import SHAPED_ENTRIES, SHAPES
+from titles import DIGITS, SHAPED_ENTRIES, SHAPES
 
 TEXT_JOBS = ["listing-full", "listing-names", "numbers"]
 TEXT_GOALS = {
@@ -20,6 +20,8 @@ GOALS = [
     for competitor, goal in TEXT_GOALS.items()
     if job != "numbers" or competitor not in LISTING_ONLY
 ]
+# No number is slower than with itoa, whatever its length.
+GOALS += [(f"digits-{digits}", "itoa", 1) for digits in DIGITS]
 # However the pointers lie, names make a listing take at most three times as long; crowded ones are only shown.
 GOALS += [
     (f"shape-{shape}-{entries}", "lepsaino-nameless", 1 / 3)

@@ -5,7 +5,7 @@ import statistics
 import sys
 
 from goals import GOALS
-from titles import COMPETITORS, JOBS, SHAPES
+from titles import COMPETITORS, DIGITS, JOBS, SHAPES
 
 OURS = "lepsaino"
 
@@ -59,13 +59,17 @@ def all_times(times):
     return table(["job", "competitor", "best", "median", "ratio by best times", "by medians"], rows)
 
 
-def instructions(path):
-    if not path.exists():
+def counted(path):
+    """Job, competitor, instructions, and for what each; none where there was no valgrind."""
+    return [line.split() for line in path.read_text().splitlines()] if path.exists() else []
+
+
+def instructions(counts):
+    if not counts:
         return "Not counted in this run: there was no valgrind."
-    rows = []
-    for line in path.read_text().splitlines():
-        job, competitor, count, each = line.split()
-        rows.append([JOBS[job], COMPETITORS[competitor], f"{int(count):,}", each])
+    # Numbers by length have a table of their own.
+    shown = [row for row in counts if not row[0].startswith("digits-")]
+    rows = [[JOBS[job], COMPETITORS[competitor], f"{int(count):,}", each] for job, competitor, count, each in shown]
     return table(["job", "competitor", "instructions", "for each"], rows)
 
 
@@ -102,6 +106,19 @@ def shapes(growth):
     return table(heads, rows, words=1)
 
 
+def lengths(growth, counts):
+    found = {(job, competitor): count for job, competitor, count, _ in counts}
+    rows = []
+    for digits in DIGITS:
+        job = f"digits-{digits}"
+        names = [OURS, "itoa", "serde"]
+        times = [f"{growth[job][name][0]:.1f}" for name in names]
+        rows.append([digits, *times, *(found.get((job, name), "") for name in names)])
+    competitors = ["the library", "Rust with itoa", "with serde_json"]
+    heads = ["digits", *(f"{name}, ns" for name in competitors), *(f"{name}, instructions" for name in competitors)]
+    return table(heads, rows, words=0)
+
+
 def machine(path):
     return "\n".join(f"- {line}" for line in path.read_text().splitlines())
 
@@ -118,13 +135,15 @@ def put(text, name, part):
 def main():
     results, document = map(pathlib.Path, sys.argv[1:])
     times, growth = read(results / "times"), read(results / "growth")
+    counts = counted(results / "instructions")
     parts = {
         "machine": machine(results / "machine"),
         "goals": goals(times | growth),
-        "instructions": instructions(results / "instructions"),
+        "instructions": instructions(counts),
         "events": event_growth(growth),
         "entries": entry_growth(growth),
         "shapes": shapes(growth),
+        "lengths": lengths(growth, counts),
         "times": all_times(times),
     }
     text = document.read_text()

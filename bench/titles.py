@@ -39,6 +39,9 @@ JOBS |= {
     for entries in SHAPED_ENTRIES
 }
 
+DIGITS = range(1, 21)
+JOBS |= {f"digits-{digits}": f"printing one number of {digits} digit{'s' if digits > 1 else ''}" for digits in DIGITS}
+
 COMPETITORS = {
     "lepsaino": "the library",
     "lepsaino-nameless": "the library without names",

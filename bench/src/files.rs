@@ -18,7 +18,8 @@ pub fn write(folder: &Path) -> io::Result<()> {
     for job in JOBS {
         std::fs::write(folder.join(format!("{}.answer", job.name)), answer(&job))?;
     }
-    std::fs::write(folder.join("numbers.answer"), printed())
+    let numbers = agreed_numbers(&fixed());
+    std::fs::write(folder.join("numbers.answer"), numbers)
 }
 
 fn write_dump(folder: &Path, name: &str, dump: &Dump) -> io::Result<()> {
@@ -95,10 +96,10 @@ pub fn agreed_mending(dump: &[u8], room: usize) -> (Result<Mended, Refusal>, Vec
     }))
 }
 
-fn printed() -> Vec<u8> {
+pub fn agreed_numbers(numbers: &[u64]) -> Vec<u8> {
     agreed(PRINTERS.map(|(name, print)| {
         let mut out = Vec::new();
-        let length = print(&fixed(), &mut out);
+        let length = print(numbers, &mut out);
         (name, out[..length].to_vec())
     }))
 }

@@ -1,10 +1,12 @@
-//! How the time of a listing grows with the events and with the entries, and what the shape of the pointers does to it.
+//! How the time of a listing grows with the events and with the entries, and what the shape of the pointers does to it;
+//! and how that of a number grows with its digits.
 
 use crate::competitors::{LIBRARY, LISTERS};
 use crate::contest::{contest, Competitor, Measure};
 use crate::dumps::{growing, leaping, Dump, SHAPES};
-use crate::files::agreed_listing;
-use crate::jobs::lister;
+use crate::files::{agreed_listing, agreed_numbers};
+use crate::jobs::{lister, print};
+use crate::numbers::{of_length, LONGEST};
 
 const EVENTS: [usize; 7] = [32, 64, 128, 256, 512, 1_024, 2_046];
 const ENTRIES: [usize; 8] = [0, 1, 50, 100, 200, 400, 800, 1_500];
@@ -27,6 +29,11 @@ pub fn run(rounds: usize) {
             let job = format!("shape-{shape}-{entries}");
             list_shape(&job, &pointers(entries), rounds);
         }
+    }
+    for digits in 1..=LONGEST {
+        let numbers = of_length(digits);
+        agreed_numbers(&numbers);
+        print(&format!("digits-{digits}"), &numbers, rounds);
     }
 }
 

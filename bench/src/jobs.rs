@@ -105,7 +105,7 @@ pub fn run(rounds: usize) {
     for job in JOBS {
         time(&job, rounds);
     }
-    print(&fixed(), rounds);
+    print("numbers", &fixed(), rounds);
 }
 
 fn time(job: &Job, rounds: usize) {
@@ -194,12 +194,18 @@ fn reader<'a>((name, read): (&'static str, Reader), dump: &'a Dump) -> Competito
     Competitor::new(name, move || read(opaque(&dump.bytes), &mut copy))
 }
 
-fn print(numbers: &[u64], rounds: usize) {
-    let printer = |&(name, print): &(&'static str, Printer)| {
-        let mut out = Vec::new();
-        Competitor::new(name, move || print(opaque(numbers), &mut out) as u64)
-    };
-    let competitors = PRINTERS.iter().map(printer).collect();
-    let measure = Measure::new("numbers", 2, numbers.len());
-    contest(&measure, rounds, competitors);
+/// The time for each number.
+pub fn print(job: &str, numbers: &[u64], rounds: usize) {
+    let measure = Measure::new(job, 2, numbers.len());
+    contest(&measure, rounds, printers(numbers));
+}
+
+pub fn printers(numbers: &[u64]) -> Vec<Competitor<'_>> {
+    PRINTERS.map(|entry| printer(entry, numbers)).into()
+}
+
+fn printer<'a>((name, print): (&'static str, Printer), numbers: &'a [u64]) -> Competitor<'a> {
+    let mut out = Vec::new();
+    let call = move || print(opaque(numbers), &mut out) as u64;
+    Competitor::new(name, call)
 }

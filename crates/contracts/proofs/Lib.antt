@@ -4,3 +4,4 @@ pub mod Interface
 pub mod Pieces
 pub mod Public
 pub mod Runs
+pub mod Tables

@@ -94,6 +94,7 @@ library = record {
     «if_room» = equation (λ κs a v w. refl);
   };
   numbers = record {
+    pairs = equation (λ κs a v w. refl);
     «is_bare» = equation (λ κs a v w. refl);
     «number_length» = bounded (λ κs a v w. refl);
     «put_number» = leaves (λ κs a x e p. (p .count, p .bytes)) (λ κs a v w e i. (e i, v .1));

@@ -5,3 +5,4 @@ pub mod Pieces
 pub mod Public
 pub mod Runs
 pub mod Settled
+pub mod Tables

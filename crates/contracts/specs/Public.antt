@@ -79,6 +79,7 @@ pub record Output : Type 0 where
   pub «if_room» : Settled output.«if_room».ended output.«if_room».Reads.Asked output.«if_room».Reads.Learnt
 
 pub record Numbers : Type 0 where
+  pub pairs : Settled numbers.pairs.ended numbers.pairs.Reads.Asked numbers.pairs.Reads.Learnt
   pub «is_bare» : Settled numbers.«is_bare».ended numbers.«is_bare».Reads.Asked numbers.«is_bare».Reads.Learnt
   pub «number_length» : Settled numbers.«number_length».ended numbers.«number_length».Reads.Asked numbers.«number_length».Reads.Learnt
   pub «put_number» : Settled numbers.«put_number».ended numbers.«put_number».Reads.Asked numbers.«put_number».Reads.Learnt

@@ -68,7 +68,8 @@ fn accepted_line(
         });
     }
     let event = event_at(dump, header, position);
-    let length = fit_event(out, dump, event, reading, position);
+    let pairs = numbers::pairs();
+    let length = fit_event(out, dump, event, reading, position, &pairs);
     if out.len() < length {
         return Listed::Refused(Refusal {
             number: 16,

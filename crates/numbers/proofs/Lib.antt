@@ -1,1 +1,3 @@
-pub mod Groups
+pub mod Alike
+pub mod Steps
+pub mod Table

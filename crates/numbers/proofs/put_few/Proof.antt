@@ -1,11 +1,17 @@
--- `numbers::put_few` meets its contract: two digits at most, or four, or one and a pair into the rest.
+-- `numbers::put_few` meets its contract: two digits at most, or such and a pair into the rest.
+use Prim.Native.Nat.{_+_, _/_}
+use mathlib.Core.Path.{_≡_}
 use native.Mathlib.Omega.{arith}
+use lib.ListN.{length}
 use borrow.Author.Needs.{needs}
-use Rattle.text.proofs.Digits.{count-hundred, digits-hundred}
 use Rattle.text.proofs.Output.{on-from}
-use Rattle.numbers.proofs.Groups.{count-four, digits-four}
+use Rattle.numbers.specs.Pairs.{digitsBy}
+use Rattle.numbers.proofs.Steps.{by-hundred, count-hundred}
 use Rattle.numbers.proofs.put_few.Statement.{statement}
 use Rattle.numbers.proofs.put_few.Tie as tie
+
+counted : (c : tie.Else1) → let a = c .before .before .args in length (digitsBy (a .pairs .now) (a .x)) ≡ length (digitsBy (a .pairs .now) (a .x / 100)) + 2
+counted c = let a = c .before .before .args in count-hundred (a .pairs .now) (a .x) (c .if1 .left)
 
 put-short-requires : tie.Need-put-short-requires
 put-short-requires c κs = search needs
@@ -16,47 +22,31 @@ same-length c = search needs
 returns : tie.Need-returns
 returns c = search needs
 
-put-four-requires : tie.Need-put-four-requires
-put-four-requires c κs =
-    let s = c .before .before .before .before in
-    (s .pre .0, omega (arith, count-four (s .args .x) (c .before .if2 .taken) (s .pre .0)))
+put-short-requires-2 : tie.Need-put-short-requires-2
+put-short-requires-2 c κs = (omega arith, omega (arith, counted (c .before)))
+
+sub-put-pair : tie.Need-sub-put-pair
+sub-put-pair c = omega (arith, counted (c .before .before .before .before))
+
+part-put-pair-start : tie.Need-part-put-pair-start
+part-put-pair-start c = omega (arith, counted (c .before .before .before .before))
+
+part-put-pair-end : tie.Need-part-put-pair-end
+part-put-pair-end c = search needs
+
+put-pair-requires : tie.Need-put-pair-requires
+put-pair-requires c κs = omega (arith, counted (c .before .before .before .before .before))
+
+add-result : tie.Need-add-result
+add-result c = omega (arith, counted (c .before .before .before .before .before .before .before .before))
 
 same-length-2 : tie.Need-same-length-2
 same-length-2 c = search needs
 
 returns-2 : tie.Need-returns-2
 returns-2 c =
-    let s = c .before .before .before .before .before .before .before in
-    rw (digits-four (s .args .x) (c .before .before .before .before .if2 .taken) (s .pre .0)) (c .before .before .put-four .ensures)
-
-put-short-requires-2 : tie.Need-put-short-requires-2
-put-short-requires-2 c κs =
-    let s = c .before .before .before .before in
-    (omega arith, omega (arith, count-hundred (s .args .x) (c .before .before .if1 .left)))
-
-sub-put-pair : tie.Need-sub-put-pair
-sub-put-pair c = omega (arith, count-hundred (c .before .before .before .before .before .before .before .args .x) (c .before .before .before .before .before .if1 .left))
-
-part-put-pair-start : tie.Need-part-put-pair-start
-part-put-pair-start c = omega (arith, count-hundred (c .before .before .before .before .before .before .before .args .x) (c .before .before .before .before .before .if1 .left))
-
-part-put-pair-end : tie.Need-part-put-pair-end
-part-put-pair-end c = search needs
-
-put-pair-requires : tie.Need-put-pair-requires
-put-pair-requires c κs = omega (arith, count-hundred (c .before .before .before .before .before .before .before .before .args .x) (c .before .before .before .before .before .before .if1 .left))
-
-add-result : tie.Need-add-result
-add-result c = omega (arith, count-hundred (c .before .before .before .before .before .before .before .before .before .before .before .args .x) (c .before .before .before .before .before .before .before .before .before .if1 .left))
-
-same-length-3 : tie.Need-same-length-3
-same-length-3 c = search needs
-
-returns-3 : tie.Need-returns-3
-returns-3 c =
-    let pair = c .before .before in
-    let short = pair .before .before .before .before in
-    rw (digits-hundred (short .before .before .before .before .before .args .x) (short .before .before .before .if1 .left)) (on-from _ _ (short .put-short2 .ensures) (pair .put-pair .ensures))
+    let a = c .before .before .before .before .before .before .before .before .before .before .args in
+    rw (by-hundred (a .pairs .now) (a .x) (c .before .before .before .before .before .before .before .before .if1 .left)) (on-from _ _ (c .before .before .before .before .before .before .put-short2 .ensures) (c .before .before .put-pair .ensures))
 
 pub put-few-spec : {M : Type 1} → statement M
 put-few-spec =
@@ -65,14 +55,11 @@ put-few-spec =
     put-short-requires
     same-length
     returns
-    put-four-requires
-    same-length-2
-    returns-2
     put-short-requires-2
     sub-put-pair
     part-put-pair-start
     part-put-pair-end
     put-pair-requires
     add-result
-    same-length-3
-    returns-3)
+    same-length-2
+    returns-2)

@@ -1,62 +1,42 @@
--- `numbers::put_four` meets its contract: the bytes of the joined digits are the digits.
-use mathlib.Core.Path.{sym}
-use native.Mathlib.Omega.{arith}
-use lib.ListN.{length-set}
+-- `numbers::put_four` meets its contract: a pair, and another into the rest.
 use borrow.Author.Needs.{needs}
-use Rattle.words.specs.Words.{split}
-use Rattle.text.proofs.Output.{stores}
-use Rattle.numbers.proofs.Groups.{four-back}
+use Rattle.text.proofs.Output.{on-from}
 use Rattle.numbers.proofs.put_four.Statement.{statement}
 use Rattle.numbers.proofs.put_four.Tie as tie
 
-four-joined-requires : tie.Need-four-joined-requires
-four-joined-requires c κs = search needs
+put-pair-requires : tie.Need-put-pair-requires
+put-pair-requires c κs = search needs
 
-cast-out : tie.Need-cast-out
-cast-out c = search needs
+sub-put-pair : tie.Need-sub-put-pair
+sub-put-pair c = search needs
 
-slice-write-out : tie.Need-slice-write-out
-slice-write-out c = search needs
+part-put-pair-start : tie.Need-part-put-pair-start
+part-put-pair-start c = search needs
 
-cast-out-2 : tie.Need-cast-out-2
-cast-out-2 c = search needs
+part-put-pair-end : tie.Need-part-put-pair-end
+part-put-pair-end c = search needs
 
-slice-write-out-2 : tie.Need-slice-write-out-2
-slice-write-out-2 c = simp length-set (omega arith)
+put-pair-requires-2 : tie.Need-put-pair-requires-2
+put-pair-requires-2 c κs = search needs
 
-cast-out-3 : tie.Need-cast-out-3
-cast-out-3 c = search needs
-
-slice-write-out-3 : tie.Need-slice-write-out-3
-slice-write-out-3 c = simp length-set (omega arith)
-
-cast-out-4 : tie.Need-cast-out-4
-cast-out-4 c = search needs
-
-slice-write-out-4 : tie.Need-slice-write-out-4
-slice-write-out-4 c = simp length-set (omega arith)
+add-result : tie.Need-add-result
+add-result c = search needs
 
 same-length : tie.Need-same-length
 same-length c = search needs
 
 returns : tie.Need-returns
-unfolding split
-returns c =
-    let s = c .before .before in
-    rw (sym (four-back (s .args .x) (s .pre .0)), ← c .four-joined .ensures) (stores (split 4 (c .four-joined .result)) (s .args .out .now) (s .pre .1))
+returns c = on-from _ _ (c .before .before .before .before .before .before .put-pair .ensures) (c .before .before .put-pair2 .ensures)
 
 pub put-four-spec : {M : Type 1} → statement M
 put-four-spec =
     tie.close
     (tie.spec
-    four-joined-requires
-    cast-out
-    slice-write-out
-    cast-out-2
-    slice-write-out-2
-    cast-out-3
-    slice-write-out-3
-    cast-out-4
-    slice-write-out-4
+    put-pair-requires
+    sub-put-pair
+    part-put-pair-start
+    part-put-pair-end
+    put-pair-requires-2
+    add-result
     same-length
     returns)

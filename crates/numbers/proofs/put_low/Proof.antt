@@ -1,10 +1,16 @@
--- `numbers::put_low` meets its contract: four digits at most, or such and four into the rest.
+-- `numbers::put_low` meets its contract: four digits at most, or such and four behind them.
+use Prim.Native.Nat.{_+_, _/_}
+use mathlib.Core.Path.{_≡_, refl}
 use native.Mathlib.Omega.{arith}
+use lib.ListN.{length}
 use borrow.Author.Needs.{needs}
-use Rattle.text.proofs.Digits.{count-myriad, digits-myriad}
-use Rattle.text.proofs.Output.{on-from}
+use Rattle.numbers.specs.Pairs.{digitsBy}
+use Rattle.numbers.proofs.Steps.{count-myriad, with-four}
 use Rattle.numbers.proofs.put_low.Statement.{statement}
 use Rattle.numbers.proofs.put_low.Tie as tie
+
+counted : (c : tie.Else1) → let a = c .before .before .args in length (digitsBy (a .pairs .now) (a .x)) ≡ length (digitsBy (a .pairs .now) (a .x / 10000)) + 4
+counted c = let a = c .before .before .args in count-myriad (a .pairs .now) (a .x) (c .if1 .left)
 
 put-few-requires : tie.Need-put-few-requires
 put-few-requires c κs = search needs
@@ -16,33 +22,18 @@ returns : tie.Need-returns
 returns c = search needs
 
 put-few-requires-2 : tie.Need-put-few-requires-2
-put-few-requires-2 c κs =
-    let s = c .before .before .before in
-    (omega arith, omega (arith, count-myriad (s .args .x) (c .before .if1 .left)))
+put-few-requires-2 c κs = (omega arith, omega (arith, counted (c .before)))
 
-sub-put-four : tie.Need-sub-put-four
-sub-put-four c = omega (arith, count-myriad (c .before .before .before .before .before .before .args .x) (c .before .before .before .before .if1 .left))
-
-part-put-four-start : tie.Need-part-put-four-start
-part-put-four-start c = omega (arith, count-myriad (c .before .before .before .before .before .before .args .x) (c .before .before .before .before .if1 .left))
-
-part-put-four-end : tie.Need-part-put-four-end
-part-put-four-end c = search needs
-
-put-four-requires : tie.Need-put-four-requires
-put-four-requires c κs = omega (arith, count-myriad (c .before .before .before .before .before .before .before .args .x) (c .before .before .before .before .before .if1 .left))
-
-add-result : tie.Need-add-result
-add-result c = omega (arith, count-myriad (c .before .before .before .before .before .before .before .before .before .before .args .x) (c .before .before .before .before .before .before .before .before .if1 .left))
+append-four-requires : tie.Need-append-four-requires
+append-four-requires c κs = (omega arith, omega (arith, counted (c .before .before .before .before .before)))
 
 same-length-2 : tie.Need-same-length-2
 same-length-2 c = search needs
 
 returns-2 : tie.Need-returns-2
 returns-2 c =
-    let four = c .before .before in
-    let few = four .before .before .before .before in
-    rw (digits-myriad (few .before .before .before .before .args .x) (few .before .before .if1 .left)) (on-from _ _ (few .put-few2 .ensures) (four .put-four .ensures))
+    let a = c .before .before .before .before .before .before .before .before .before .before .args in
+    with-four (a .pairs .now) (a .x) _ (c .before .before .before .before .before .before .before .before .if1 .left) refl (c .before .before .before .before .before .before .put-few2 .ensures) (c .before .before .append-four .ensures)
 
 pub put-low-spec : {M : Type 1} → statement M
 put-low-spec =
@@ -52,10 +43,6 @@ put-low-spec =
     same-length
     returns
     put-few-requires-2
-    sub-put-four
-    part-put-four-start
-    part-put-four-end
-    put-four-requires
-    add-result
+    append-four-requires
     same-length-2
     returns-2)

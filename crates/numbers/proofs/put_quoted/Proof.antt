@@ -1,76 +1,72 @@
--- `numbers::put_quoted` meets its contract: a quote, the digits, a quote, each into the rest.
+-- `numbers::put_quoted` meets its contract: a quote, the digits into the rest, and a quote where they end.
+use Prim.Native.Nat.{_+_, _-_}
+use mathlib.Core.List.{_++_}
+use mathlib.Core.Path.{_≡_}
 use native.Mathlib.Omega.{arith}
+use lib.ListN.{length, length-drop, length-set, length-take, set}
 use borrow.Author.Needs.{needs}
-use Rattle.text.proofs.Output.{at-most, is-put, on-from, on-to}
+use borrow.Rule.Slice.PartMut.{putMid}
+use Rattle.text.proofs.Output.{on-from, stores}
 use Rattle.text.specs.Ascii.{ascii}
 use Rattle.text.specs.Numbers.{quoted}
+use Rattle.text.specs.Output.{Put}
+use Rattle.numbers.specs.Pairs.{digitsBy}
+use Rattle.numbers.proofs.Steps.{byte-behind, put-same}
 use Rattle.numbers.proofs.put_quoted.Statement.{statement}
 use Rattle.numbers.proofs.put_quoted.Tie as tie
 
-slice-aggregate-put-bytes : tie.Need-slice-aggregate-put-bytes
-slice-aggregate-put-bytes c = search needs
+-- the quote and the digits, and the output as long as before
+opened : (c : tie.After-slice-known2)
+    → let s = c .before .before .before .before .before in
+    let old = s .args .out .now in
+    Put (ascii "\"" ++ digitsBy (s .args .pairs .now) (s .args .x)) old (putMid 1 (length (set old 0 34) - 1) (set old 0 34) (c .before .before .put-long .last .0)) (1 + c .before .before .put-long .result)
+opened c = let old = c .before .before .before .before .before .args .out .now in on-from _ _ (stores (ascii "\"") old (omega arith)) (c .before .before .put-long .ensures)
 
-put-bytes-requires : tie.Need-put-bytes-requires
-put-bytes-requires c κs = search needs
+same : (c : tie.After-slice-known2) → let old = c .before .before .before .before .before .args .out .now in length (putMid 1 (length (set old 0 34) - 1) (set old 0 34) (c .before .before .put-long .last .0)) ≡ length old
+same c = put-same (opened c) (omega (arith, opened c .count))
 
-sub-put-high : tie.Need-sub-put-high
-sub-put-high c = omega (arith, at-most _ (c .before .before .put-bytes .ensures))
+slice-write-out : tie.Need-slice-write-out
+slice-write-out c = search needs
 
-part-put-high-start : tie.Need-part-put-high-start
-part-put-high-start c = omega (arith, at-most _ (c .before .before .put-bytes .ensures))
+sub-put-long : tie.Need-sub-put-long
+sub-put-long c = simp length-set (omega arith)
 
-part-put-high-end : tie.Need-part-put-high-end
-part-put-high-end c = search needs
+part-put-long-start : tie.Need-part-put-long-start
+part-put-long-start c = simp length-set (omega arith)
 
-put-high-requires : tie.Need-put-high-requires
-put-high-requires c κs = omega (arith, at-most _ (c .before .before .before .put-bytes .ensures))
+part-put-long-end : tie.Need-part-put-long-end
+part-put-long-end c = search needs
+
+put-long-requires : tie.Need-put-long-requires
+put-long-requires c κs = (omega arith, simp (length-take, length-drop, length-set) (omega arith))
 
 add-at : tie.Need-add-at
-add-at c = omega (arith, at-most _ (c .before .before .before .before .before .before .put-bytes .ensures))
+add-at c = search needs
 
-sub-put-bytes : tie.Need-sub-put-bytes
-sub-put-bytes c = omega (arith, at-most _ (c .before .before .before .before .before .before .put-bytes .ensures))
-
-part-put-bytes-start : tie.Need-part-put-bytes-start
-part-put-bytes-start c = omega (arith, at-most _ (c .before .before .before .before .before .before .put-bytes .ensures))
-
-part-put-bytes-end : tie.Need-part-put-bytes-end
-part-put-bytes-end c = search needs
-
-slice-aggregate-put-bytes-2 : tie.Need-slice-aggregate-put-bytes-2
-slice-aggregate-put-bytes-2 c = search needs
-
-put-bytes-requires-2 : tie.Need-put-bytes-requires-2
-put-bytes-requires-2 c κs = search needs
+slice-write-out-2 : tie.Need-slice-write-out-2
+slice-write-out-2 c = omega (arith, same c)
 
 add-result : tie.Need-add-result
-add-result c = omega (arith, at-most _ (c .before .before .before .before .before .before .before .before .before .before .before .put-bytes .ensures), at-most _ (c .before .before .put-bytes2 .ensures))
-
-same-length : tie.Need-same-length
-same-length c = search needs
+add-result c = search needs
 
 returns : tie.Need-returns
 unfolding quoted
-returns c =
-    let first = is-put (ascii "\"") (c .before .before .before .before .before .before .before .before .before .before .before .before .before .before .before .args .out .now) (omega arith) (c .before .before .before .before .before .before .before .before .before .before .before .put-bytes .ensures) in
-    on-to _ (ascii "\"") (on-from _ _ first (c .before .before .before .before .before .before .before .put-high .ensures)) (c .before .before .put-bytes2 .ensures) (omega (arith, first .count))
+returns c = byte-behind 34 (opened c) (omega (arith, same c))
+
+same-length : tie.Need-same-length
+same-length c = put-same (returns c) (omega (arith, opened c .count))
 
 pub put-quoted-spec : {M : Type 1} → statement M
 put-quoted-spec =
     tie.close
     (tie.spec
-    slice-aggregate-put-bytes
-    put-bytes-requires
-    sub-put-high
-    part-put-high-start
-    part-put-high-end
-    put-high-requires
+    slice-write-out
+    sub-put-long
+    part-put-long-start
+    part-put-long-end
+    put-long-requires
     add-at
-    sub-put-bytes
-    part-put-bytes-start
-    part-put-bytes-end
-    slice-aggregate-put-bytes-2
-    put-bytes-requires-2
+    slice-write-out-2
     add-result
     same-length
     returns)

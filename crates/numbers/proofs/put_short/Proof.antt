@@ -2,9 +2,9 @@
 use mathlib.Core.List.{[], _∷_}
 use native.Mathlib.Omega.{arith}
 use borrow.Author.Needs.{needs}
-use Rattle.text.proofs.Digits.{count-one, count-pair, digits-one, digits-pair}
 use Rattle.text.proofs.Output.{stores}
 use Rattle.text.specs.Numbers.{digit}
+use Rattle.numbers.proofs.Steps.{by-one, by-pair, count-one, count-pair}
 use Rattle.numbers.proofs.put_short.Statement.{statement}
 use Rattle.numbers.proofs.put_short.Tie as tie
 
@@ -15,26 +15,28 @@ add-out : tie.Need-add-out
 add-out c = search needs
 
 slice-write-out : tie.Need-slice-write-out
-slice-write-out c = omega (arith, count-one (c .before .before .args .x) (c .if1 .taken))
+slice-write-out c = let a = c .before .before .args in omega (arith, count-one (a .pairs .now) (a .x) (c .if1 .taken))
 
 same-length : tie.Need-same-length
 same-length c = search needs
 
 returns : tie.Need-returns
 returns c =
-    let s = c .before .before in
-    rw (digits-one (s .args .x) (c .if1 .taken)) (stores (digit (s .args .x) ∷ []) (s .args .out .now) (omega (arith, count-one (s .args .x) (c .if1 .taken))))
+    let a = c .before .before .args in
+    rw (by-one (a .pairs .now) (a .x) (c .if1 .taken)) (stores (digit (a .x) ∷ []) (a .out .now) (omega (arith, count-one (a .pairs .now) (a .x) (c .if1 .taken))))
 
 put-pair-requires : tie.Need-put-pair-requires
 put-pair-requires c κs =
     let s = c .before .before .before in
-    (s .pre .0, omega (arith, count-pair (s .args .x) (c .before .if1 .left) (s .pre .0)))
+    (s .pre .0, omega (arith, count-pair (s .args .pairs .now) (s .args .x) (c .before .if1 .left) (s .pre .0)))
 
 same-length-2 : tie.Need-same-length-2
 same-length-2 c = search needs
 
 returns-2 : tie.Need-returns-2
-returns-2 c = rw (digits-pair (c .before .before .before .before .before .before .args .x) (c .before .before .before .before .if1 .left) (c .before .before .before .before .before .before .pre .0)) (c .before .before .put-pair .ensures)
+returns-2 c =
+    let s = c .before .before .before .before .before .before in
+    rw (by-pair (s .args .pairs .now) (s .args .x) (c .before .before .before .before .if1 .left) (s .pre .0)) (c .before .before .put-pair .ensures)
 
 pub put-short-spec : {M : Type 1} → statement M
 put-short-spec =

@@ -32,34 +32,37 @@ returns c =
 event-at-requires : tie.Need-event-at-requires
 event-at-requires c κs = search needs
 
+pairs-requires : tie.Need-pairs-requires
+pairs-requires c κs = search needs
+
 fit-event-requires : tie.Need-fit-event-requires
 unfolding eventIn
 fit-event-requires c κs =
-    let s = c .before .before .before .before .before in
+    let s = c .before .before .before .before .before .before .before in
     let a = s .args in
-    rw (event-is (c .before)) (fits (a .dump .now) (a .header) (a .reading) (a .events) (a .position) (s .pre) (c .before .before .if1 .left))
+    (rw (event-is (c .before .before .before)) (fits (a .dump .now) (a .header) (a .reading) (a .events) (a .position) (s .pre) (c .before .before .before .before .if1 .left)), c .before .before .pairs .ensures)
 
 same-length : tie.Need-same-length
 same-length c = search needs
 
 returns-2 : tie.Need-returns-2
 returns-2 c =
-    let a = c .before .before .before .before .before .before .before .before .before .args in
+    let a = c .before .before .before .before .before .before .before .before .before .before .before .args in
     let events = eventCount (a .dump .now) (a .header) in
     let text = lineAt (a .dump .now) (a .header) (a .reading) (a .position) in
-    gave-more (row25 (a .position) events ∷ []) (row16 (length text) (length (a .out .now)) ∷ []) (an-event (a .position) events (within (c .before .before .before .before .before .before)))
-    (gave-short text (omega arith) (rw (event-is (c .before .before .before .before .before)) at (c .before .before .before .fit-event .ensures)) (c .if2 .taken))
+    gave-more (row25 (a .position) events ∷ []) (row16 (length text) (length (a .out .now)) ∷ []) (an-event (a .position) events (within (c .before .before .before .before .before .before .before .before)))
+    (gave-short text (omega arith) (rw (event-is (c .before .before .before .before .before .before .before)) at (c .before .before .before .fit-event .ensures)) (c .if2 .taken))
 
 same-length-2 : tie.Need-same-length-2
 same-length-2 c = search needs
 
 returns-3 : tie.Need-returns-3
 returns-3 c =
-    let a = c .before .before .before .before .before .before .before .before .before .args in
+    let a = c .before .before .before .before .before .before .before .before .before .before .before .args in
     let events = eventCount (a .dump .now) (a .header) in
     let text = lineAt (a .dump .now) (a .header) (a .reading) (a .position) in
-    gave-more (row25 (a .position) events ∷ []) (row16 (length text) (length (a .out .now)) ∷ []) (an-event (a .position) events (within (c .before .before .before .before .before .before)))
-    (gave-fitted text (omega arith) (rw (event-is (c .before .before .before .before .before)) at (c .before .before .before .fit-event .ensures)) (c .if2 .left))
+    gave-more (row25 (a .position) events ∷ []) (row16 (length text) (length (a .out .now)) ∷ []) (an-event (a .position) events (within (c .before .before .before .before .before .before .before .before)))
+    (gave-fitted text (omega arith) (rw (event-is (c .before .before .before .before .before .before .before)) at (c .before .before .before .fit-event .ensures)) (c .if2 .left))
 
 pub accepted-line-spec : {M : Type 1} → statement M
 accepted-line-spec =
@@ -67,6 +70,7 @@ accepted-line-spec =
     (tie.spec
     returns
     event-at-requires
+    pairs-requires
     fit-event-requires
     same-length
     returns-2
