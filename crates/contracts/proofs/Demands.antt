@@ -15,10 +15,8 @@ use Rattle.events.specs.Listing.{Gave, listedTold}
 use Rattle.events.specs.declared.Listed.the-variants.{Written}
 use Rattle.lepsaino_c.specs.Answers.{GaveNumbers, listedAnswer}
 use Rattle.lepsaino_c.specs.declared.answers.Answer.{Answer}
-use Rattle.lines.proofs.Tables.{line-by-pairs}
+use Rattle.lines.proofs.Pairs.{line-by}
 use Rattle.numbers.proofs.Alike.{number-by}
-use Rattle.numbers.proofs.Table.{pairs-rule}
-use Rattle.numbers.specs.Pairs.{pairs}
 use Rattle.rows.specs.Rows.{Accepted, Row}
 use Rattle.text.proofs.Output.{fitted-all, fitted-same, is-put, some-said}
 use Rattle.text.specs.Output.{Fitted, Put, printed}
@@ -78,8 +76,8 @@ numbers-leave = record {
   «put_line» = λ κs a p some. ap jsonNumbers (front _ _ _ _ (p .allowed) some) ∙ one-line-numbers _ _;
   «put_number» = λ κs a p some. ap jsonNumbers (front _ _ _ _ (p .allowed) some) ∙ one-number _;
   «put_name» = λ κs a p some. ap jsonNumbers (front _ _ _ _ (p .allowed) some) ∙ one-name _;
-  «fit_line» = λ κs a p ours room short. ap jsonNumbers (fitted-front _ _ _ _ (rw (ours, line-by-pairs _ _) at (p .allowed)) room short) ∙ one-line-numbers _ _;
-  «fit_number» = λ κs a p ours room short. ap jsonNumbers (fitted-front _ _ _ _ (rw (ours, number-by pairs pairs-rule _) at (p .allowed)) room short) ∙ one-number _;
+  «fit_line» = λ κs a p rule room short. ap jsonNumbers (fitted-front _ _ _ _ (rw (line-by _ rule _ _) at (p .allowed)) room short) ∙ one-line-numbers _ _;
+  «fit_number» = λ κs a p rule room short. ap jsonNumbers (fitted-front _ _ _ _ (rw (number-by _ rule _) at (p .allowed)) room short) ∙ one-number _;
   «fit_name» = λ κs a p room short. ap jsonNumbers (fitted-front _ _ _ _ (p .allowed) room short) ∙ one-name _;
   «lepsaino_line» = λ κs a p none.
       let (wrote, size) = handed _ _ _ _ _ (zero-accepts .line _ _ _ _ _ _ (p .allowed) none) (p .allowed) in

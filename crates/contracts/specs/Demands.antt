@@ -19,7 +19,7 @@ use Rattle.mender.proofs as mender
 use Rattle.mending.specs.Mending.{mendedTold, mendingRows}
 use Rattle.names.proofs as names
 use Rattle.numbers.proofs as numbers
-use Rattle.numbers.specs.Pairs.{pairs}
+use Rattle.numbers.specs.Pairs.{HasPairs}
 use Rattle.pieces.proofs.Pieces as pieces
 use Rattle.pieces.specs.Pieces.{finishRows}
 use Rattle.recorder.proofs as recorder
@@ -98,14 +98,14 @@ pub record NumbersLeave : Type 0 where
   pub «put_name» : Allows names.«put_name».ended names.«put_name».Reads.Learnt (λ κs a x last.
       let new = last .0 in
       (x ≡ 0 → ⊥) → jsonNumbers (take x new) ≡ [])
-  -- fit_line, fit_number and fit_name take the same, and the first two a table. It is ours, and the length that is answered is no more than the output's,
-  -- which is below two to the 63, as that of every slice is.
+  -- fit_line, fit_number and fit_name take the same, and the first two a table. It has the two digits of each number below a hundred, as ours has, and the
+  -- length that is answered is no more than the output's, which is below two to the 63, as that of every slice is.
   pub «fit_line» : Allows lines.«fit_line».ended lines.«fit_line».Reads.Learnt (λ κs a x last.
       let line = a .1 .0 in let table = now (a .1 .1 .1 .1 .0) in let new = last .0 in
-      table ≡ pairs → x ≤ length new → length new < 2 ^ 63 → jsonNumbers (take x new) ≡ map digits (keep isBare (numbersOf line)))
+      HasPairs table → x ≤ length new → length new < 2 ^ 63 → jsonNumbers (take x new) ≡ map digits (keep isBare (numbersOf line)))
   pub «fit_number» : Allows numbers.«fit_number».ended numbers.«fit_number».Reads.Learnt (λ κs a x last.
       let number = a .1 .0 in let table = now (a .1 .1 .0) in let new = last .0 in
-      table ≡ pairs → x ≤ length new → length new < 2 ^ 63 → jsonNumbers (take x new) ≡ map digits (keep isBare (number ∷ [])))
+      HasPairs table → x ≤ length new → length new < 2 ^ 63 → jsonNumbers (take x new) ≡ map digits (keep isBare (number ∷ [])))
   pub «fit_name» : Allows names.«fit_name».ended names.«fit_name».Reads.Learnt (λ κs a x last.
       let new = last .0 in
       x ≤ length new → length new < 2 ^ 63 → jsonNumbers (take x new) ≡ [])

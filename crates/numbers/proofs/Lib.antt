@@ -1,3 +1,3 @@
 pub mod Alike
+pub mod Rule
 pub mod Steps
-pub mod Table

@@ -1,30 +1,17 @@
 -- Laws of numbers by a table: their digits two, four and eight less, how many there are, and the two kinds of numbers.
-use Prim.Native.Nat.{ℕ, zero, suc, _+_, _/_, _%_, _≤_, _<_, zero-le}
+use Prim.Native.Nat.{ℕ, zero, suc, _+_, _/_, _%_, _≤_, _<_}
 use mathlib.Core.Bool.{Bool, true, false}
 use mathlib.Core.List.{List, [], _∷_, _++_, append-assoc}
 use mathlib.Core.Path.{_≡_, refl}
 use native.Mathlib.Nat.{div-div-eq-div-mul}
 use native.Mathlib.Omega.{arith}
 use lib.Dec.{ltb}
-use lib.ListN.{length, length-append, length-drop, set}
-use lib.Seq.{sets-eq}
+use lib.ListN.{length, length-append}
 use borrow.Author.Tests.{le-ltb, lt-ltb, ltb-false}
-use Rattle.text.proofs.Output.{from-start, then, to-start}
+use Rattle.text.proofs.Output.{behind}
 use Rattle.text.specs.Numbers.{digit, isBare, quoted}
 use Rattle.text.specs.Output.{Put, Wrote}
 use Rattle.numbers.specs.Pairs.{digitsBy, digitsInBy, eightBy, fourBy, numberBy, pairBy}
-
--- a text at the front, and another where it ends
-behind : {a b old mid new : List ℕ} {i j : ℕ} → Put a old mid i → Wrote i b mid new j → Put (a ++ b) old new j
-behind first second = from-start (then _ _ zero-le (to-start first) second)
-
--- and a byte there
-pub byte-behind : (v : ℕ) {a old mid : List ℕ} {i : ℕ} → Put a old mid i → i < length mid → Put (a ++ (v ∷ [])) old (set mid i v) (i + 1)
-byte-behind v {mid = mid} {i} first within = behind first record { end = refl; bytes = sets-eq (v ∷ []) mid i (omega arith) }
-
--- what was put within the output left its length
-pub put-same : {text old new : List ℕ} {n : ℕ} → Put text old new n → n ≤ length old → length new ≡ length old
-put-same put within = rw (put .bytes, length-append, length-drop) (omega (arith, put .count))
 
 module _ (table : List ℕ) where
   pub by-one : (n : ℕ) → n < 10 → digitsBy table n ≡ digit n ∷ []

@@ -8,7 +8,7 @@ use Rattle.text.proofs.Output.{fitted-all, put-all, put-none}
 use Rattle.text.specs.Numbers.{number}
 use Rattle.numbers.specs.Pairs.{pairs}
 use Rattle.numbers.proofs.Alike.{number-by}
-use Rattle.numbers.proofs.Table.{pairs-rule}
+use Rattle.numbers.proofs.Rule.{pairs-rule}
 use Rattle.numbers.proofs.put_number.Statement.{statement}
 use Rattle.numbers.proofs.put_number.Tie as tie
 

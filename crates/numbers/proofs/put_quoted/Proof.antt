@@ -6,12 +6,11 @@ use native.Mathlib.Omega.{arith}
 use lib.ListN.{length, length-drop, length-set, length-take, set}
 use borrow.Author.Needs.{needs}
 use borrow.Rule.Slice.PartMut.{putMid}
-use Rattle.text.proofs.Output.{on-from, stores}
+use Rattle.text.proofs.Output.{byte-behind, on-from, put-same, stores}
 use Rattle.text.specs.Ascii.{ascii}
 use Rattle.text.specs.Numbers.{quoted}
 use Rattle.text.specs.Output.{Put}
 use Rattle.numbers.specs.Pairs.{digitsBy}
-use Rattle.numbers.proofs.Steps.{byte-behind, put-same}
 use Rattle.numbers.proofs.put_quoted.Statement.{statement}
 use Rattle.numbers.proofs.put_quoted.Tie as tie
 

@@ -4,7 +4,7 @@ use mathlib.Core.List.{List}
 use mathlib.Core.Option.{Option}
 use mathlib.Core.Path.{_≡_}
 use lib.ListN.{length}
-use Rattle.lines.specs.Tables.{lineBy}
+use Rattle.lines.specs.Pairs.{lineBy}
 use Rattle.numbers.specs.Pairs.{HasPairs, numberBy, pairs}
 use Rattle.text.specs.Lines.{line}
 use Rattle.text.specs.Numbers.{number}
