@@ -8,6 +8,7 @@ from goals import GOALS
 from titles import COMPETITORS, DIGITS, JOBS, SHAPES
 
 OURS = "lepsaino"
+MODULE = "node-module"
 
 
 def read(path):
@@ -119,6 +120,18 @@ def lengths(growth, counts):
     return table(heads, rows, words=0)
 
 
+def in_node(times):
+    """What a page can have: the module, and beside it plain JavaScript and the archive."""
+    rows = []
+    for job, row in times.items():
+        if MODULE in row:
+            module, ours = row[MODULE][0], row[OURS][0]
+            by_hand = min(row[name][0] for name in ["node-template", "node-stringify", "node-plain"] if name in row)
+            rows.append([JOBS[job], *map(time_text, [module, by_hand, ours]), *map(ratio_text, [by_hand / module, module / ours])])
+    heads = ["job", "the module", "plain JavaScript, the faster way", "the archive for C", "plain JavaScript / the module", "the module / the archive"]
+    return table(heads, rows, words=1)
+
+
 def machine(path):
     return "\n".join(f"- {line}" for line in path.read_text().splitlines())
 
@@ -144,6 +157,7 @@ def main():
         "entries": entry_growth(growth),
         "shapes": shapes(growth),
         "lengths": lengths(growth, counts),
+        "node": in_node(times),
         "times": all_times(times),
     }
     text = document.read_text()

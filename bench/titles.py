@@ -59,6 +59,7 @@ COMPETITORS = {
     "node-template": "node, template literals",
     "node-stringify": "node, JSON.stringify",
     "node-plain": "node",
+    "node-module": "node, the library's module",
     "python-format": "Python, f-strings",
     "python-json": "Python, json",
     "python-plain": "Python",

@@ -219,32 +219,32 @@ struct lepsaino_answer lepsaino_remove(uint8_t *buffer, size_t buffer_length, ui
 /*
  * Refusals, by number. The place is 0 but for 11 (the lowest such entry), 12 and 13 (the lowest such slot), 20 (that entry) and 26 (the count of missing
  * bytes). 26 is the last part of checks 7 and 9: the order is 1 to 7, 26, 8, 9, 26, 10 and so on, first for the registry's end and then for the slots'.
- *  1  fewer than 48 bytes
- *  2  more than 65,536 bytes
- *  3  the id is neither pattern
- *  4  the mask is not w ones at the bottom, w from 1 to 32
- *  5  the name size is not a multiple of 4 from 4 to 64
- *  6  the registry does not start at offset 48
- *  7  the registry ends before 48, past 65,536, or not after a whole number of entries
- *  8  the slots do not start where the registry ends
- *  9  the slots do not end past their start, end past 65,536, or are not whole
- * 10  current lies before the first slot, past the last, or not on a slot
- * 11  an entry in use has a type that is not allowed
+ *  1  dump below 48 bytes
+ *  2  dump or buffer above 65,536 bytes
+ *  3  id is neither pattern
+ *  4  mask not w ones at the bottom, w from 1 to 32
+ *  5  name size not a multiple of 4 from 4 to 64
+ *  6  registry start offset not 48
+ *  7  registry end offset below 48, above 65,536, or not a whole number of entries
+ *  8  buffer start differs from registry end
+ *  9  buffer end offset not above its start, above 65,536, or not whole slots
+ * 10  current offset before the start, at or past the end, or not on a slot
+ * 11  an in-use entry has a type not allowed
  * 12  a slot breaks the used/unused rule
- * 13  a used slot has the event id 0
- * 14  the clock rate is 0
- * 15  the unit number is 2^24 or more, or the first serial plus the event count is above 2^40
+ * 13  a used slot has id 0
+ * 14  clock rate 0
+ * 15  unit number of two to the 24 or more, or first serial plus event count above two to the 40
  * 16  the text is longer than the output, or the copy than its room
- * 17  an event with the thread pointer 0
- * 18  an event with the id 0
- * 19  the object's type is not allowed
- * 20  an entry in use has that pointer already
- * 21  no entry is free
- * 22  no entry in use has that pointer
- * 23  the name contains a zero byte
- * 24  no room for a header, the registry and one slot
- * 25  there is no event at that position
- * 26  the dump was cut: the registry or the slots end past its length
+ * 17  write with thread pointer 0
+ * 18  write with event id 0
+ * 19  object type not allowed
+ * 20  an in-use entry has that pointer already
+ * 21  no free entry
+ * 22  no in-use entry has that pointer
+ * 23  the name given contains a zero byte
+ * 24  formatting: no room for header, registry and one slot
+ * 25  no event at that position
+ * 26  the upload was cut: an end offset is otherwise right and at most 65,536 but beyond the dump's length
  */
 
 #endif

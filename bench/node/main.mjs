@@ -1,18 +1,26 @@
 // node main.mjs FOLDER JOB WAY prints the answer to a job on the folder's dumps; with ROUNDS behind, the best and the median nanoseconds.
 import { readFileSync } from "node:fs";
+import { load } from "../../page/library.mjs";
 import { fixedNumbers } from "./numbers.mjs";
 import * as stringify from "./stringify.mjs";
 import * as template from "./template.mjs";
 import { check, formatted, record } from "./trace.mjs";
 
-const WAYS = { template, stringify };
 const RECORDED = 1000000;
+// The loader as a page uses it, over the module that LEPSAINO_MODULE names.
+const library = await load(readFileSync(process.env.LEPSAINO_MODULE));
+const LISTINGS = {
+  template: template.listing,
+  stringify: stringify.listing,
+  module: (bytes, reading) => library.list(bytes, reading).text,
+};
+const CHECKS = { plain: check, module: (bytes) => library.check(bytes) };
 
 /** A job is a call, the calls in a row that are timed, the parts of a call whose time is told, and what is printed of its answer. */
 function listingJob(folder, name, way) {
   const bytes = readFileSync(`${folder}/${name}.dump`);
   const [rate, unit, serial] = readFileSync(`${folder}/${name}.reading`, "utf8").trim().split(" ").map(Number);
-  const call = () => WAYS[way].listing(bytes, { rate, unit, serial });
+  const call = () => LISTINGS[way](bytes, { rate, unit, serial });
   return { call, calls: 2, parts: 1, answer: (text) => text };
 }
 
@@ -29,9 +37,9 @@ const jobs = {
   "listing-full": (folder, way) => listingJob(folder, "full", way),
   "listing-names": (folder, way) => listingJob(folder, "names", way),
   "listing-gone": (folder, way) => listingJob(folder, "gone", way),
-  check(folder) {
+  check(folder, way) {
     const bytes = readFileSync(`${folder}/full.dump`);
-    return { call: () => check(bytes).events, calls: 20, parts: 1, answer: (events) => `${events}\n` };
+    return { call: () => CHECKS[way](bytes).events, calls: 20, parts: 1, answer: (events) => `${events}\n` };
   },
   record: recordJob,
   numbers() {

@@ -2,10 +2,10 @@
 import assert from "node:assert/strict";
 import { readFileSync } from "node:fs";
 import test from "node:test";
-import { RefusedLine, readLine, readListing } from "./lepsaino.mjs";
+import { RefusedLine, readLine, readListing } from "../lepsaino.mjs";
 
-const CORPUS_ANSWERS = new URL("../crates/corpus/stdout", import.meta.url);
-const PEER_KEYS = new URL("../peer/keys", import.meta.url);
+const CORPUS_ANSWERS = new URL("../../crates/corpus/stdout", import.meta.url);
+const PEER_KEYS = new URL("../../peer/keys", import.meta.url);
 const FEWEST_CORPUS_KEYS = 1000;
 const FEWEST_CORPUS_LISTINGS = 100;
 

@@ -1,0 +1,32 @@
+// The types of lepsaino.mjs, for editors.
+
+/** One line of a listing. Numbers that may pass 2^53 are BigInts. */
+export interface ListedEvent {
+  readonly key: bigint;
+  readonly keyText: string;
+  readonly ticks: bigint;
+  readonly us: bigint;
+  readonly id: number;
+  readonly ptr: number;
+  readonly by: "init" | "isr" | "thread";
+  /** A character for each byte; null where there is no name. */
+  readonly name: string | null;
+  /** Whether the name is that of a removed thread. */
+  readonly gone: boolean;
+  readonly field: number;
+  readonly info: readonly number[];
+}
+
+/** Thrown for a text of another form: the line and the column, from 1, and the reason in words. */
+export class RefusedLine extends Error {
+  readonly line: number;
+  readonly column: number;
+  readonly reason: string;
+  constructor(line: number, column: number, reason: string);
+}
+
+/** One event, from the text of one line without its line feed. */
+export function readLine(text: string): ListedEvent;
+
+/** All events of a whole listing, whose every line ends in a line feed. */
+export function readListing(text: string): readonly ListedEvent[];

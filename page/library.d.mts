@@ -1,0 +1,113 @@
+// The types of library.mjs, for editors.
+
+/** A whole number: a BigInt, or a number that is a safe integer. One out of its range is a RangeError, anything else a TypeError. */
+export type Whole = number | bigint;
+export type Bytes = Uint8Array | ArrayBuffer;
+
+/** The clock rate in Hz and the unit number, of 32 bits, and the first event's serial, of 64. */
+export interface Reading {
+  readonly rate: Whole;
+  readonly unit: Whole;
+  readonly serial: Whole;
+}
+
+/** A refusal by the documents' table. */
+export interface Refusal {
+  readonly number: number;
+  readonly place: number;
+  /** The documents' words for it. */
+  readonly words: string;
+  /** What the place counts, in words; null where it counts nothing. */
+  readonly at: string | null;
+}
+
+/** `refusal` tells the two apart: it is null where the call was accepted, and otherwise nothing else is there. */
+export type Answer<Found> =
+  | ({ readonly refusal: Refusal } & { readonly [Field in keyof Found]?: undefined })
+  | ({ readonly refusal: null } & Readonly<Found>);
+
+/** The byte order, the header's fields as they are stored, and the number of events. */
+export interface Checked {
+  big: boolean;
+  id: number;
+  mask: number;
+  base: number;
+  registryStart: number;
+  nameSize: number;
+  registryEnd: number;
+  bufferStart: number;
+  bufferEnd: number;
+  current: number;
+  events: number;
+}
+
+export interface Text {
+  text: string;
+}
+
+/** A name, a character for each byte, and where in the dump it begins; both null where there is none. `gone` is true for a removed thread's. */
+export interface Name {
+  name: string | null;
+  gone: boolean;
+  nameAt: number | null;
+}
+
+/** One event: its slot's eight words, its ticks, its context and its name. */
+export interface DumpEvent extends Name {
+  ptr: number;
+  field: number;
+  id: number;
+  stamp: number;
+  info: readonly [number, number, number, number];
+  ticks: bigint;
+  by: "init" | "isr" | "thread";
+}
+
+/** What was mended, in the documents' six counts. */
+export interface Counts {
+  /** Slots zeroed as missing, or partly missing. */
+  readonly missing: number;
+  /** 1 where current was bad and became the start. */
+  readonly current: number;
+  /** Entries freed for a type that is not allowed. */
+  readonly types: number;
+  /** Used slots zeroed for the id 0. */
+  readonly ids: number;
+  /** 1 where the used slots were packed. */
+  readonly packed: number;
+  /** Used slots whose index packing changed. */
+  readonly moved: number;
+}
+
+export interface Mended {
+  copy: Uint8Array;
+  counts: Counts;
+}
+
+/** The state of a check in pieces. It never changes, so it may be kept and fed in two ways. */
+export interface Pieces {
+  /** The state after one piece more, of any length. */
+  feed(piece: Bytes): Pieces;
+  /** What `check` gives on all the bytes that were fed. */
+  finish(): Answer<Checked>;
+}
+
+export interface Library {
+  /** Checks 1 to 13. */
+  check(dump: Bytes): Answer<Checked>;
+  /** The text of all lines, oldest event first: checks 1 to 15. `readListing` of lepsaino.mjs gives its events. */
+  list(dump: Bytes, reading: Reading): Answer<Text>;
+  /** The line of one event, with its line feed: checks 1 to 15, then 25. */
+  line(dump: Bytes, reading: Reading, position: Whole): Answer<Text>;
+  /** One event by its position, from 0, oldest first: checks 1 to 13, then 25. */
+  event(dump: Bytes, position: Whole): Answer<DumpEvent>;
+  /** The name for a thread's pointer: checks 1 to 11. */
+  findName(dump: Bytes, pointer: Whole): Answer<Name>;
+  /** A mended copy, which passes every check: checks 1 to 9, save 26 for the slots' end. */
+  mend(dump: Bytes): Answer<Mended>;
+  /** The check of a dump in pieces, before any byte. */
+  begin(): Pieces;
+}
+
+/** Loads the module: from where it lies beside library.mjs, from another address, or from its bytes. */
+export function load(source?: string | URL | Bytes): Promise<Library>;

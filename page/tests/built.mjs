@@ -1,0 +1,21 @@
+// What page/build and peer/build-module made, in the folder that LEPSAINO_BUILT names; checks/page.py sees to it.
+import { readFileSync } from "node:fs";
+
+export function built(name) {
+  const folder = process.env.LEPSAINO_BUILT;
+  if (!folder) throw new Error("LEPSAINO_BUILT must name the folder that page/build made, with lepsaino-O0.wasm beside");
+  return readFileSync(`${folder}/${name}`);
+}
+
+/** A file of the project. */
+export function kept(path) {
+  return readFileSync(new URL(`../../${path}`, import.meta.url));
+}
+
+/** Files of cases, and what must be printed for them one after another: by the peer, and by the reader, the writer and the mender in Python. */
+export const CORPUS = { cases: ["crates/corpus/data/cases"], printed: "crates/corpus/stdout", fewestCalls: 26000 };
+export const CASES = {
+  cases: ["check", "pieces", "reader", "writer", "mender"].map((name) => `crates/cases/data/${name}`),
+  printed: "crates/cases/stdout",
+  fewestCalls: 22000,
+};

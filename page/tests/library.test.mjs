@@ -1,0 +1,303 @@
+// Tests of the loader: what its calls give, what they refuse, what is no argument, and the corpus through it.
+import assert from "node:assert/strict";
+import test from "node:test";
+import { runInNewContext } from "node:vm";
+import { readListing } from "../lepsaino.mjs";
+import { load } from "../library.mjs";
+import { refusalOf } from "../refusals.mjs";
+import { CASES, CORPUS, built, kept } from "./built.mjs";
+import { RawAnswerer } from "./raw.mjs";
+import { repliesOf } from "./replies.mjs";
+
+const SAMPLE = kept("crates/lepsaino/data/pump.dump");
+const CUT = kept("crates/lepsaino/data/cut.dump");
+// Document 01's lines, as document 02 amends them.
+const LINES = kept("crates/lepsaino/stdout").toString("latin1");
+const READING = { rate: 3000000, unit: 8192, serial: 0 };
+
+const moduleBytes = built("lepsaino.wasm");
+const library = await load(moduleBytes);
+
+const refused = (number, place) => ({ refusal: refusalOf(number, place) });
+const changed = (bytes, at, ...values) => { const copy = Uint8Array.from(bytes); copy.set(values, at); return copy; };
+
+test("the whole case", () => {
+  const { refusal, text } = library.list(SAMPLE, READING);
+  assert.equal(refusal, null);
+  assert.equal(text, LINES);
+  LINES.match(/.*\n/g).forEach((line, position) => {
+    assert.deepEqual(library.line(SAMPLE, READING, position), { refusal: null, text: line });
+    const { stamp, nameAt, refusal: none, ...event } = library.event(SAMPLE, position);
+    const { key, keyText, us, ...listed } = readListing(LINES)[position];
+    assert.deepEqual(event, listed);
+  });
+  assert.deepEqual(library.check(SAMPLE), {
+    refusal: null, big: false, id: 0x54585442, mask: 0xffff, base: 0x20000000, registryStart: 0x20000030, nameSize: 8,
+    registryEnd: 0x20000048, bufferStart: 0x20000048, bufferEnd: 0x200000a8, current: 0x20000068, events: 3,
+  });
+  assert.deepEqual([0, 1, 2].map((position) => library.event(SAMPLE, position).stamp), [65500, 20, 20]);
+});
+
+test("names, live, gone and none", () => {
+  const named = { refusal: null, name: "pump", gone: false, nameAt: 64 };
+  assert.deepEqual(library.findName(SAMPLE, 0x20001000), named);
+  assert.deepEqual(library.findName(changed(SAMPLE, 48, 1), 0x20001000), { ...named, gone: true });
+  assert.deepEqual(library.findName(SAMPLE, 0x20001001), { refusal: null, name: null, gone: false, nameAt: null });
+  assert.equal(library.findName(changed(SAMPLE, 64, 0), 0x20001000n).name, "");
+  const odd = library.findName(changed(SAMPLE, 64, 0x80, 0x9f, 0xff, 0x22), 0x20001000);
+  assert.equal(odd.name, "\u0080\u009f\u00ff\"");
+  assert.equal(library.event(SAMPLE, 2).nameAt, null);
+  assert.deepEqual(library.event(changed(SAMPLE, 48, 1), 0).gone, true);
+});
+
+test("ticks, and all that a line has above 2^53, are BigInts", () => {
+  assert.equal(library.event(SAMPLE, 1).ticks, 56n);
+  const last = { rate: 1, unit: 16777215, serial: 2n ** 40n - 3n };
+  const events = readListing(library.list(SAMPLE, last).text);
+  assert.deepEqual(events.map(({ key }) => key), [2n ** 64n - 3n, 2n ** 64n - 2n, 2n ** 64n - 1n]);
+  assert.equal(events[1].us, 56000000n);
+});
+
+test("a refusal has its number, its place and the documents' words", () => {
+  assert.deepEqual(library.check(SAMPLE.subarray(0, 47)), {
+    refusal: { number: 1, place: 0, words: "dump below 48 bytes", at: null },
+  });
+  assert.deepEqual(library.list(CUT, READING), {
+    refusal: {
+      number: 26, place: 18, at: "missing bytes up to that end: 18",
+      words: "the upload was cut: an end offset is otherwise right and at most 65,536 but beyond the dump's length",
+    },
+  });
+  assert.deepEqual(library.check(changed(SAMPLE, 49, 15)), refused(11, 0));
+  assert.deepEqual(library.check(changed(SAMPLE, 144, 0, 0, 0, 0)), refused(13, 2));
+  assert.deepEqual(library.check(changed(SAMPLE, 72, 0, 0, 0, 0)), refused(12, 0));
+  assert.equal(library.check(changed(SAMPLE, 144, 0, 0, 0, 0)).refusal.at, "slot 2");
+  assert.equal(library.check(changed(SAMPLE, 72, 0, 0, 0, 0)).refusal.at, "slot 0");
+  assert.equal(library.check(changed(SAMPLE, 49, 15)).refusal.at, "entry 0");
+  assert.deepEqual(library.list(SAMPLE, { ...READING, rate: 0 }), refused(14, 0));
+  assert.deepEqual(library.list(SAMPLE, { ...READING, unit: 16777216 }), refused(15, 0));
+  assert.deepEqual(library.event(SAMPLE, 3), refused(25, 0));
+  assert.deepEqual(library.line(SAMPLE, READING, 2n ** 64n - 1n), refused(25, 0));
+  assert.deepEqual(library.findName(CUT.subarray(0, 60), 1), refused(26, 12));
+  assert.deepEqual(library.mend(CUT.subarray(0, 60)), refused(26, 12));
+});
+
+test("the words are those of the header's table, and every number has some", () => {
+  const table = [...kept("include/lepsaino.h").toString().matchAll(/^ \* {1,2}(\d+)  (.+)$/gm)];
+  assert.equal(table.length, 26);
+  table.forEach(([, number, words], index) => {
+    assert.equal(Number(number), index + 1);
+    assert.equal(refusalOf(index + 1, 0).words, words);
+  });
+});
+
+test("a number out of range is an error, and none is cut", () => {
+  const calls = {
+    rate: [32, (rate) => library.list(SAMPLE, { ...READING, rate })],
+    unit: [32, (unit) => library.line(SAMPLE, { ...READING, unit }, 0)],
+    serial: [64, (serial) => library.list(SAMPLE, { ...READING, serial })],
+    position: [64, (position) => library.event(SAMPLE, position)],
+    pointer: [32, (pointer) => library.findName(SAMPLE, pointer)],
+  };
+  for (const [name, [bits, call]] of Object.entries(calls)) {
+    const most = 2n ** BigInt(bits) - 1n;
+    for (const value of [0, 0n, -0, 1, most]) call(value);
+    if (bits === 32) call(Number(most));
+    for (const value of [-1, -1n, most + 1n, most + 6n, 2n ** 100n]) assert.throws(() => call(value), new RangeError(`${name} must be from 0 to ${most}`));
+    for (const value of [0.5, NaN, Infinity, 2 ** 53, -(2 ** 64), "5", "", null, undefined, true, {}, [5], new Number(5)]) {
+      assert.throws(() => call(value), { name: "TypeError", message: `${name} must be a whole number: a BigInt, or a number that is a safe integer` });
+    }
+  }
+  assert.throws(() => library.line(SAMPLE, READING, 2n ** 64n), /position must be/);
+  for (const reading of [undefined, null, 7, {}, { rate: 1, unit: 1 }]) assert.throws(() => library.list(SAMPLE, reading), TypeError);
+});
+
+test("only bytes are a dump or a piece", () => {
+  const others = [undefined, null, 7, "dump", [66, 84], {}, new Uint16Array(48), new Uint8ClampedArray(48), new DataView(new ArrayBuffer(48))];
+  for (const other of others) {
+    for (const call of ["check", "mend"]) assert.throws(() => library[call](other), /the dump must be a Uint8Array or an ArrayBuffer/);
+    assert.throws(() => library.begin().feed(other), /the piece must be/);
+  }
+  const lent = new Uint8Array(1000).fill(7);
+  lent.set(SAMPLE, 300);
+  const within = lent.subarray(300, 300 + SAMPLE.length);
+  for (const same of [within, within.slice().buffer, Buffer.from(within)]) assert.equal(library.list(same, READING).text, LINES);
+  assert.deepEqual(lent.subarray(300, 300 + SAMPLE.length), Uint8Array.from(SAMPLE));
+});
+
+test("a dump of any length gets its refusal", () => {
+  for (const [length, number] of [[0, 1], [47, 1], [48, 3], [65536, 3], [65537, 2], [131073, 2], [4000000, 2]]) {
+    assert.deepEqual(library.check(new Uint8Array(length)), refused(number, 0));
+    assert.deepEqual(library.mend(new Uint8Array(length)), refused(number, 0));
+    assert.deepEqual(library.begin().feed(new Uint8Array(length)).finish(), refused(number, 0));
+  }
+});
+
+/** A dump of 65,536 bytes that makes lines as long as they come: one thread, a name of 64 bytes that are not ASCII, the largest words. */
+function longestLines() {
+  const dump = new DataView(new ArrayBuffer(65536));
+  const put = (at, ...words) => words.forEach((word, index) => dump.setUint32(at + 4 * index, word));
+  put(0, 0x54585442, 0xffffffff, 0, 48, 64, 128, 128, 65536, 128);
+  put(48, 0x00010000, 0xfffffffe);
+  for (let at = 64; at < 128; at += 1) dump.setUint8(at, 0xff);
+  // Each stamp is one less than the one before: a gap of 2^32 - 1 ticks.
+  for (let slot = 0; slot < 2044; slot += 1) put(128 + 32 * slot, 0xfffffffe, ...Array(2).fill(0xffffffff), 9000 - slot, ...Array(4).fill(0xffffffff));
+  return dump.buffer;
+}
+
+test("the longest lines have room", () => {
+  const last = 4294967295n;
+  const quoted = (number) => (number < 2n ** 53n ? number : `"${number}"`);
+  const line = (position) =>
+    `{"key":"${2n ** 64n - 2044n + position}","ticks":${position * last},"us":${quoted(position * last * 1000000n)},"id":${last},"ptr":4294967294,"by":"thread",` +
+    `"name":"${"\\u00ff".repeat(64)}","gone":false,"field":${last},"info":[${last},${last},${last},${last}]}\n`;
+  const lines = Array.from({ length: 2044 }, (_, position) => line(BigInt(position)));
+  const { text } = library.list(longestLines(), { rate: 1, unit: 16777215, serial: 2n ** 40n - 2044n });
+  assert.equal(text, lines.join(""));
+});
+
+test("mending gives a copy and six counts", () => {
+  const { copy, counts, refusal } = library.mend(CUT);
+  assert.equal(refusal, null);
+  // The command's reference shows the same.
+  assert.deepEqual({ length: copy.length, ...counts }, { length: 168, missing: 1, current: 0, types: 0, ids: 0, packed: 1, moved: 2 });
+  const kept = copy.slice();
+  assert.equal(library.check(copy).events, 2);
+  const [first, , third] = LINES.match(/.*\n/g);
+  assert.equal(library.list(copy, READING).text, first + third.replace("740994", "740993"));
+  assert.deepEqual(copy, kept);
+  assert.deepEqual(library.mend(copy), { refusal: null, copy, counts: { missing: 0, current: 0, types: 0, ids: 0, packed: 0, moved: 0 } });
+});
+
+test("pieces, however they are cut, give what the check gives", () => {
+  for (const dump of [SAMPLE, CUT]) {
+    const whole = library.check(dump);
+    for (let cut = 0; cut <= dump.length; cut += 1) {
+      const front = library.begin().feed(dump.subarray(0, cut)).feed(new Uint8Array(0));
+      assert.deepEqual(front.feed(dump.subarray(cut)).finish(), whole);
+      // The state is still that after the front alone.
+      assert.deepEqual(front.finish(), library.check(dump.subarray(0, cut)));
+    }
+  }
+  assert.deepEqual(library.begin().finish(), refused(1, 0));
+});
+
+test("the types name the calls and what they give", () => {
+  const types = kept("page/library.d.mts").toString();
+  const named = (type) => [...types.match(new RegExp(`interface ${type} [^]*?\\n}`))[0].matchAll(/^  (?:readonly )?(\w+)[:(]/gm)].map(([, name]) => name);
+  const given = ({ refusal, ...found }) => Object.keys(found).sort();
+  const isNamed = (type, names, more = []) => assert.deepEqual([...named(type), ...more].sort(), names);
+  const methods = (object) => Object.getOwnPropertyNames(Object.getPrototypeOf(object)).filter((name) => name !== "constructor").sort();
+  isNamed("Library", methods(library));
+  isNamed("Pieces", methods(library.begin()));
+  isNamed("Checked", given(library.check(SAMPLE)));
+  isNamed("Text", given(library.list(SAMPLE, READING)));
+  isNamed("Name", given(library.findName(SAMPLE, 1)));
+  isNamed("DumpEvent", given(library.event(SAMPLE, 0)), named("Name"));
+  isNamed("Mended", given(library.mend(SAMPLE)));
+  isNamed("Counts", given(library.mend(SAMPLE).counts));
+  isNamed("Refusal", given(library.check(CUT).refusal));
+});
+
+test("answers cannot be changed", () => {
+  for (const answer of [library.check(SAMPLE), library.list(SAMPLE, READING), library.event(SAMPLE, 0), library.check(CUT), library.check(CUT).refusal, library.event(SAMPLE, 0).info, library.mend(CUT).counts]) {
+    assert.ok(Object.isFrozen(answer));
+  }
+});
+
+/** Loads the library over instances whose check stops on the way, and counts them, until they are mended. */
+async function withStoppingCheck(use) {
+  const { Instance } = WebAssembly;
+  const made = { count: 0, stops: true };
+  WebAssembly.Instance = function (module) {
+    const { exports } = new Instance(module);
+    made.count += 1;
+    const stop = () => { throw new WebAssembly.RuntimeError("unreachable"); };
+    return { exports: { ...exports, lepsaino_check: (...given) => (made.stops ? stop() : exports.lepsaino_check(...given)) } };
+  };
+  try {
+    use(await load(moduleBytes), made);
+  } finally {
+    WebAssembly.Instance = Instance;
+  }
+}
+
+test("after a call that stopped on the way the next begins anew", () => withStoppingCheck((stopping, made) => {
+  assert.equal(stopping.list(SAMPLE, READING).text, LINES);
+  assert.equal(made.count, 1);
+  assert.throws(() => stopping.check(SAMPLE), WebAssembly.RuntimeError);
+  made.stops = false;
+  assert.equal(stopping.check(SAMPLE).events, 3);
+  assert.equal(made.count, 2);
+}));
+
+test("bytes of another page are bytes, and bytes that were moved away or lie about their length are not taken for others", () => {
+  const other = runInNewContext("[Uint8Array, ArrayBuffer]");
+  const from = new other[0](SAMPLE);
+  for (const dump of [from, from.buffer]) assert.equal(library.list(dump, READING).text, LINES);
+  const moved = Uint8Array.from(SAMPLE);
+  structuredClone(moved.buffer, { transfer: [moved.buffer] });
+  const short = new Uint8Array(new ArrayBuffer(168, { maxByteLength: 168 }), 100);
+  short.buffer.resize(50);
+  for (const gone of [moved, moved.buffer, short]) {
+    for (const call of [() => library.check(gone), () => library.mend(gone), () => library.begin().feed(gone)]) assert.throws(call, TypeError);
+  }
+  class Longer extends Uint8Array { get length() { return 168; } }
+  library.check(SAMPLE);
+  assert.deepEqual(library.check(new Longer(SAMPLE.subarray(0, 60))), refused(26, 12));
+  assert.throws(() => library.check({ [Symbol.toStringTag]: "ArrayBuffer", length: 168 }), /must be a Uint8Array/);
+});
+
+test("a module that cannot be fetched is an error, and one that can is asked for anew", async () => {
+  const { fetch } = globalThis;
+  const asked = [];
+  try {
+    globalThis.fetch = async (source, { cache }) => { asked.push([`${source}`, cache]); return new Response(moduleBytes, { status: asked.length === 1 ? 404 : 200 }); };
+    await assert.rejects(load("elsewhere.wasm"), /could not be fetched: status 404/);
+    assert.equal((await load()).check(SAMPLE).events, 3);
+  } finally {
+    globalThis.fetch = fetch;
+  }
+  assert.deepEqual(asked, [["elsewhere.wasm", "no-cache"], [`${new URL("../lepsaino.wasm", import.meta.url)}`, "no-cache"]]);
+});
+
+test("another module is not taken for ours", async () => {
+  const empty = Uint8Array.of(0, 0x61, 0x73, 0x6d, 1, 0, 0, 0);
+  await assert.rejects(load(empty), /this is not lepsaino.wasm: it has no lepsaino_check/);
+  const importing = Uint8Array.of(...empty, 2, 8, 1, 1, 0x61, 1, 0x62, 2, 0, 0);
+  await assert.rejects(load(importing), /this is not lepsaino.wasm: it has imports/);
+  await assert.rejects(load(moduleBytes.subarray(0, 1000)), WebAssembly.CompileError);
+  for (const other of [null, 7, {}]) await assert.rejects(load(other), /the module must be/);
+});
+
+/** What a call that always has room enough would have given in less. */
+function within(room, answer, size) {
+  if (answer.refusal || size(answer) <= room) return { ...answer, changed: 0 };
+  return { refusal: { number: 16, place: 0 }, changed: 0 };
+}
+
+/** The calls of library.mjs, and those of a raw answerer where a page has none. */
+function loadedAnswerer(raw) {
+  return {
+    check: (dump) => library.check(dump),
+    begin: () => library.begin(),
+    event: (dump, position) => library.event(dump, position),
+    findName: (dump, pointer) => library.findName(dump, pointer),
+    line: (dump, reading, position, room) => within(room, library.line(dump, reading, position), ({ text }) => text.length),
+    list: (dump, reading, room) => within(room, library.list(dump, reading), ({ text }) => text.length),
+    mend: (dump, room) => within(room, library.mend(dump), ({ copy }) => copy.length),
+    format: (buffer, format) => raw.format(buffer, format),
+    record: (buffer, slot) => raw.record(buffer, slot),
+    register: (buffer, object, name) => raw.register(buffer, object, name),
+    remove: (buffer, pointer) => raw.remove(buffer, pointer),
+  };
+}
+
+test("the corpus and the cases through the loader", () => {
+  const { exports } = new WebAssembly.Instance(new WebAssembly.Module(moduleBytes));
+  const answerer = loadedAnswerer(new RawAnswerer(exports));
+  for (const { cases, printed } of [CORPUS, CASES]) {
+    // Megabytes of text are not to be shown.
+    assert.ok(repliesOf(cases.map(kept), answerer).text.equals(kept(printed)), `other replies than ${printed}`);
+  }
+});

@@ -1,0 +1,52 @@
+// What an editor makes of the types: each line below must be taken, and each behind @ts-expect-error refused.
+import { load, type Answer, type Checked, type Library, type Pieces } from "../library.mjs";
+import { readListing, RefusedLine, type ListedEvent } from "../lepsaino.mjs";
+
+export async function use(file: Blob): Promise<bigint[]> {
+  const library: Library = await load();
+  const dump = new Uint8Array(await file.arrayBuffer());
+  const answer = library.list(dump, { rate: 3000000, unit: 8192n, serial: 0 });
+  // @ts-expect-error: there may be a refusal and no text.
+  readListing(answer.text);
+  if (answer.refusal) throw new Error(`${answer.refusal.number} ${answer.refusal.place}: ${answer.refusal.words}`);
+  return readListing(answer.text).map(({ key }) => key);
+}
+
+// As the README has it.
+export async function embed(file: Blob): Promise<readonly ListedEvent[]> {
+  const library = await load();
+  const { refusal, text } = library.list(await file.arrayBuffer(), { rate: 3000000, unit: 8192, serial: 0 });
+  const events = refusal ? [] : readListing(text);
+  return events;
+}
+
+export function inPieces(library: Library, pieces: Uint8Array[]): Answer<Checked> {
+  const fed = pieces.reduce((state: Pieces, piece) => state.feed(piece), library.begin());
+  return fed.finish();
+}
+
+export function others(library: Library, dump: ArrayBuffer): void {
+  const event = library.event(dump, 2n ** 40n);
+  if (event.refusal === null) {
+    const ticks: bigint = event.ticks;
+    const info: number = event.info[3];
+    const name: string | null = event.name;
+    // @ts-expect-error: an answer cannot be changed.
+    event.gone = true;
+    // @ts-expect-error: there are four information words.
+    event.info[4];
+    void [ticks, info, name];
+  }
+  const mended = library.mend(dump);
+  if (mended.refusal === null) library.check(mended.copy), mended.counts.moved + 1;
+  // @ts-expect-error: a text is no dump.
+  library.check("dump");
+  // @ts-expect-error: a reading has three numbers.
+  library.list(dump, { rate: 1, unit: 1 });
+  // @ts-expect-error: a position is a number.
+  library.line(dump, { rate: 1, unit: 1, serial: 1 }, "0");
+  const found = library.findName(dump, 0x20001000);
+  if (!found.refusal && found.nameAt !== null) found.nameAt + 1;
+  const refused: number = new RefusedLine(1, 2, "why").column;
+  void refused;
+}
