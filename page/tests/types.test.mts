@@ -2,21 +2,18 @@
 import { load, type Answer, type Checked, type Library, type Pieces } from "../library.mjs";
 import { readListing, RefusedLine, type ListedEvent } from "../lepsaino.mjs";
 
-export async function use(file: Blob): Promise<bigint[]> {
-  const library: Library = await load();
-  const dump = new Uint8Array(await file.arrayBuffer());
+export function use(library: Library, dump: Uint8Array): void {
   const answer = library.list(dump, { rate: 3000000, unit: 8192n, serial: 0 });
   // @ts-expect-error: there may be a refusal and no text.
   readListing(answer.text);
-  if (answer.refusal) throw new Error(`${answer.refusal.number} ${answer.refusal.place}: ${answer.refusal.words}`);
-  return readListing(answer.text).map(({ key }) => key);
+  if (answer.refusal === null) readListing(answer.text).map(({ key }): bigint => key);
 }
 
 // As the README has it.
 export async function embed(file: Blob): Promise<readonly ListedEvent[]> {
-  const library = await load();
-  const { refusal, text } = library.list(await file.arrayBuffer(), { rate: 3000000, unit: 8192, serial: 0 });
-  const events = refusal ? [] : readListing(text);
+  const { refusal, text } = (await load()).list(await file.arrayBuffer(), { rate: 3000000, unit: 8192, serial: 0 });
+  if (refusal) throw new Error(`${refusal.number} ${refusal.place}: ${refusal.words}`);
+  const events = readListing(text);
   return events;
 }
 
