@@ -55,7 +55,7 @@ def searches(page):
     page.shows(found="3 of 3 events", rows=rows, invalid=[])
 
 
-CUT_SHORT = refusal(26, 18, " (missing bytes up to that end: 18)")
+CUT_SHORT = refusal(26, 18)
 # The field, what is typed, what is said, which fields are marked.
 READINGS = [("rate", "0", refusal(14), []), ("unit", "16777216", refusal(15), []),
             ("unit", "4294967296", "the unit number must be from 0 to 4294967295", ["unit"]), ("rate", "-1", "give the clock rate, in digits", ["rate"]),
@@ -90,7 +90,7 @@ def mends(page):
     page.saves("save-listing", "cut.dump.mended.jsonl", lines.encode())
     page.browser.click("#discard")
     page.shows(CUT_SHORT, parts=["mend"], **NOTHING)
-    for dump, said in (("short.dump", refusal(1)), ("foreign.dump", refusal(3)), ("registry.dump", refusal(26, 1, " (missing bytes up to that end: 1)"))):
+    for dump, said in (("short.dump", refusal(1)), ("foreign.dump", refusal(3)), ("registry.dump", refusal(26, 1))):
         page.refuse(dump, said)
         page.browser.click("#mend")
         page.shows(f"It cannot be mended. {said}", parts=[], **NOTHING)
@@ -175,6 +175,36 @@ def tells_that_the_module_is_missing(browser, folder):
         page = Page(browser, folder, server, True)
         page.open("pump.dump")
         page.shows("The library could not be loaded: lepsaino.wasm could not be fetched: status 404.", parts=[], **NOTHING)
+        server.shutdown()
+    browser.log()
+
+
+FETCHED = """
+const rows = [...document.querySelectorAll("tbody tr")].filter((row) => row.checkVisibility());
+return [document.getElementById("answer").innerText, rows.map((row) => [...row.cells].map((cell) => cell.innerText))];"""
+
+
+def shows_what_is_fetched(browser, folder):
+    """page/example.html shows a whole listing with as many events as it is told, and nothing else; none from elsewhere."""
+    served = folder / "example"
+    shutil.copytree(folder / "page", served)
+    shutil.copy(ROOT / "page" / "example.html", served)
+    for name, text in (("pump.jsonl", LINES), ("lost.jsonl", LINES[:LINES.index("\n") + 1]), ("none.jsonl", ""), ("refused.jsonl", "11 3\n")):
+        (served / name).write_text(text)
+    with Server(served) as server:
+        elsewhere = f"{server.address.replace('127.0.0.1', 'localhost')}pump.jsonl"
+        for listing, events, said, rows in (
+            ("pump.jsonl", 3, "Events, each under its own key: 3.", cells(LINES)), ("none.jsonl", 0, "Events, each under its own key: 0.", []),
+            ("lost.jsonl", 3, "Nothing is shown: line 2, column 1: the number of events is 1: expected 3.", []),
+            ("none.jsonl", 3, "Nothing is shown: line 1, column 1: the number of events is 0: expected 3.", []),
+            ("refused.jsonl", 3, "The dump was refused: 11 3: entry 3 is in use with a type that is not allowed.", []),
+            ("missing.jsonl", 0, "Nothing is shown: the server answered with status 404.", []), (elsewhere, 3, "Nothing is shown: Failed to fetch.", []),
+        ):
+            browser.post("/url", url=f"{server.address}example.html?listing={listing}&events={events}")
+            same(f"what is shown of {listing}", until(lambda: browser.script(FETCHED), lambda seen: "being" not in seen[0]), [said, rows])
+        browser.post("/url", url=f"{server.address}example.html?listing=none.jsonl")
+        said = "Nothing is shown: the number of events must be a whole number, or its digits."
+        same("what is shown without a number", until(lambda: browser.script(FETCHED), lambda seen: "being" not in seen[0]), [said, []])
         server.shutdown()
     browser.log()
 
@@ -301,6 +331,7 @@ def run(folder, picture):
     with Server(folder / "page") as server, started(folder) as browser:
         pages = [Page(browser, folder, server, is_served) for is_served in (True, False)]
         tells_that_the_module_is_missing(browser, folder)
+        shows_what_is_fetched(browser, folder)
         faults, times = (sum(both, []) for both in zip(*map(tested, pages)))
         if picture:
             draw(pages[0], picture)

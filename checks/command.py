@@ -1,8 +1,12 @@
 #!/usr/bin/env python3
 """The command ./lepsaino as a shell sees it: what it prints, where, and its exit status."""
+import csv
 import ctypes
+import io
+import json
 import os
 import platform
+import re
 import resource
 import shutil
 import signal
@@ -21,6 +25,7 @@ sys.path.insert(0, str(ROOT / "cases"))
 
 from dumps import Dump, entry
 from reader import Reading, listing
+from snippets import faults_of, workplace
 
 PUMP = (ROOT / "crates/lepsaino/data/pump.dump").read_bytes()
 LINES = (ROOT / "crates/lepsaino/stdout").read_bytes()
@@ -30,6 +35,8 @@ FULL_LINES = listing(FULL, Reading(3000000, 8192, 0), 1500000).encode()
 CUT = (ROOT / "crates/lepsaino/data/cut.dump").read_bytes()
 USAGE = b"usage: lepsaino FILE RATE UNIT SERIAL\n"
 MEND_USAGE = b"usage: lepsaino mend FILE COPY\n"
+HEADER = (ROOT / "include/lepsaino.h").read_text()
+WORDS = dict(re.findall(r"^ \* {1,2}(\d+)  (.*)$", HEADER, re.M))
 GOOD = ("3000000", "8192", "0")
 faults = []
 
@@ -42,6 +49,12 @@ def check(what, holds, seen):
 def run(folder, *arguments, script=ROOT / "lepsaino", stdout=subprocess.PIPE, timeout=60, **options):
     """The command, started in another folder than the repository."""
     return subprocess.run([script, *arguments], cwd=folder, stdout=stdout, stderr=subprocess.PIPE, timeout=timeout, **options)
+
+
+def in_words(refusal):
+    """What standard error says of a refusal's line: the header's words, with the place in them."""
+    number, place = refusal.decode().split()
+    return f"lepsaino: {number}: {WORDS[number].replace('N', place)}\n".encode()
 
 
 def wrong(number, name):
@@ -88,22 +101,22 @@ REMOVED = PUMP[:48] + b"\1" + PUMP[49:]
 REMOVED_LINES = LINES.replace(b'"name":"pump","gone":false', b'"name":"pump","gone":true')
 THREADS, THREADS_LINES = removed_threads()
 CASES = [
-    # the dump, the arguments after it, standard output, standard error, the exit status
+    # the dump, the arguments after it, standard output, standard error (that of a refusal has it in words), the exit status
     (PUMP, GOOD, LINES, b"", 0),
     (REMOVED, GOOD, REMOVED_LINES, b"", 0),
     (THREADS, ("1000000", "0", "0"), THREADS_LINES, b"", 0),
     (FULL, GOOD, FULL_LINES, b"", 0),
     (EMPTY, ("1", "0", "0"), b"", b"", 0),
-    (PUMP[:47], ("1", "0", "0"), b"1 0\n", b"", 1),
-    (PUMP[:48], GOOD, b"26 24\n", b"", 1),
-    (PUMP[:72], GOOD, b"26 96\n", b"", 1),
-    (PUMP[:167], GOOD, b"26 1\n", b"", 1),
+    (PUMP[:47], ("1", "0", "0"), b"1 0\n", None, 1),
+    (PUMP[:48], GOOD, b"26 24\n", None, 1),
+    (PUMP[:72], GOOD, b"26 96\n", None, 1),
+    (PUMP[:167], GOOD, b"26 1\n", None, 1),
     (PUMP + bytes(65536 - len(PUMP)), GOOD, LINES, b"", 0),
-    (PUMP + bytes(65537 - len(PUMP)), GOOD, b"2 0\n", b"", 1),
-    (PUMP + bytes(99999), GOOD, b"2 0\n", b"", 1),
-    (b"", ("1", "0", "0"), b"1 0\n", b"", 1),
-    (PUMP, ("0", "8192", "0"), b"14 0\n", b"", 1),
-    (PUMP, ("1", str(HALF), str(WHOLE)), b"15 0\n", b"", 1),
+    (PUMP + bytes(65537 - len(PUMP)), GOOD, b"2 0\n", None, 1),
+    (PUMP + bytes(99999), GOOD, b"2 0\n", None, 1),
+    (b"", ("1", "0", "0"), b"1 0\n", None, 1),
+    (PUMP, ("0", "8192", "0"), b"14 0\n", None, 1),
+    (PUMP, ("1", str(HALF), str(WHOLE)), b"15 0\n", None, 1),
     (PUMP, (str(HALF + 1), "8192", "0"), b"", wrong(HALF, "RATE"), 2),
     (PUMP, ("1", str(HALF + 1), "0"), b"", wrong(HALF, "UNIT"), 2),
     (PUMP, ("1", "1", str(WHOLE + 1)), b"", wrong(WHOLE, "SERIAL"), 2),
@@ -122,14 +135,50 @@ def plain(folder):
     for dump, arguments, out, error, status in CASES:
         path.write_bytes(dump)
         done = run(folder, path.name, *arguments)
+        error = in_words(out) if error is None else error
         check(f"{len(dump)} bytes, {arguments}", (done.stdout, done.stderr, done.returncode) == (out, error, status), done)
     for name, said in (("none", b"none: No such file or directory\n"), (".", b".: Is a directory\n"), ("", None)):
         done = run(folder, name, "1", "1", "1")
         one_line = not done.stdout and done.returncode == 2 and done.stderr.count(b"\n") == 1
         check(repr(name), one_line and said in (None, done.stderr), done)
-    with open(ROOT / "crates/lepsaino/data/pump.dump", "rb") as dump:
-        done = run(folder, "/dev/stdin", *GOOD, stdin=dump)
-    check("a dump by standard input", (done.stdout, done.stderr, done.returncode) == (LINES, b"", 0), done)
+
+
+def says_refusals(folder):
+    """What the place counts is said in words; 11 3 is the example of README.md."""
+    dump = Dump(entries=5, slots=1)
+    for index in (3, 4):
+        dump.entries[index] = entry(7, b"valve", kind=15)
+    here = place(folder, bad=dump.bytes("<"))
+    done = run(here, "bad", *GOOD)
+    said = b"lepsaino: 11: entry 3 is in use with a type that is not allowed\n"
+    check("11 3", (done.stdout, done.stderr, done.returncode) == (b"11 3\n", said, 1), done)
+    check("words for every number", sorted(map(int, WORDS)) == list(range(1, len(WORDS) + 1)) and len(WORDS) >= 26, WORDS)
+
+
+def by_standard_input(folder):
+    """A dash is standard input from where it stands: a file, a pipe, a socket, or none. A file of that name has another."""
+    def must_list(what, done, out=LINES, error=b"", status=0):
+        check(f"{what} as standard input", (done.stdout, done.stderr, done.returncode) == (out, error, status), done)
+
+    here = place(folder, dump=PUMP, behind=b"front" + PUMP, **{"-": CUT})
+    with open(here / "dump", "rb") as dump:
+        must_list("a file", run(here, "-", *GOOD, stdin=dump))
+    with open(here / "behind", "rb") as dump:
+        os.lseek(dump.fileno(), 5, os.SEEK_SET)
+        must_list("a file's rest", run(here, "-", *GOOD, stdin=dump))
+    must_list("a pipe", run(here, "-", *GOOD, input=PUMP))
+    must_list("a long pipe", run(here, "-", *GOOD, input=PUMP + bytes(999999)), b"2 0\n", in_words(b"2 0"), 1)
+    must_list("nothing", run(here, "-", *GOOD, input=b""), b"1 0\n", in_words(b"1 0"), 1)
+    ours, theirs = socket.socketpair()
+    with ours, theirs:
+        ours.sendall(PUMP)
+        ours.shutdown(socket.SHUT_WR)
+        must_list("a socket", run(here, "-", *GOOD, stdin=theirs))
+    must_list("a folder", run(here, "-", *GOOD, stdin=os.open(here, os.O_RDONLY)), b"", b"standard input: Is a directory\n", 2)
+    must_list("none", run(here, "-", *GOOD, preexec_fn=lambda: os.close(0)), b"", b"standard input: Bad file descriptor\n", 2)
+    must_list("a file of that name, not", run(here, "./-", *GOOD), b"26 18\n", in_words(b"26 18"), 1)
+    done = run(here, "mend", "-", "copy", input=ALL)
+    must_mend("by a pipe", done, here / "copy", ["dump", "behind", "-"])
 
 
 # What is printed, the arguments, standard output, the exit status.
@@ -144,6 +193,11 @@ PRINTED = [
 def limit(size):
     """No regular file may grow beyond that: it stands for a disk with so much room."""
     return lambda: resource.setrlimit(resource.RLIMIT_FSIZE, (size, size))
+
+
+def error_of(text, status):
+    """What standard error has beside a text that is printed whole."""
+    return in_words(text) if status == 1 else b""
 
 
 def not_printed(folder):
@@ -176,20 +230,20 @@ def no_work_room(folder):
             ("no folder for files", dict(env=dict(os.environ, TMPDIR=str(Path(folder) / "missing")))),
         ):
             done = run(folder, *arguments, **options)
-            error = b"none: No such file or directory\n" if status == 2 else b""
+            error = b"none: No such file or directory\n" if status == 2 else error_of(text, status)
             printed = done.stdout.startswith(USAGE) if text is None else done.stdout == text
             check(f"{what}, {where}", printed and (done.stderr, done.returncode) == (error, status), done)
 
 
 def reader_leaves(folder):
     """A reader that leaves early is no error, whether or not the caller has SIGPIPE ignored."""
-    for what, arguments, _, status in PRINTED:
+    for what, arguments, text, status in PRINTED:
         for restored in (True, False):
             ours, theirs = os.pipe()
             os.close(ours)
             done = run(folder, *arguments, stdout=theirs, restore_signals=restored)
             os.close(theirs)
-            check(f"{what}, no reader", (done.stderr, done.returncode) == (b"", status), done)
+            check(f"{what}, no reader", (done.stderr, done.returncode) == (error_of(text, status), status), done)
     done = run(folder, "-c", 'set -o pipefail; "$0" full 3000000 8192 0 | head -c 1', ROOT / "lepsaino", script="bash")
     check("head -c 1", (done.stdout, done.stderr, done.returncode) == (b"{", b"", 0), done)
 
@@ -305,8 +359,9 @@ def mends_by_name(folder):
 
 
 def must_leave(what, here, done, error=None, out=b"", status=2):
-    """An error with one line, or a refusal; `here` is a folder and what was in it."""
-    right = (done.stdout or b"", done.returncode, done.stderr.count(b"\n")) == (out, status, status == 2)
+    """An error with one line, or a refusal, which has one line, too; `here` is a folder and what was in it."""
+    right = (done.stdout or b"", done.returncode, done.stderr.count(b"\n")) == (out, status, 1)
+    error = in_words(out) if status == 1 else error
     check(what, right and error in (None, done.stderr), done)
     check(f"{what}, what is left", state(here[0]) == here[1], state(here[0]))
 
@@ -388,19 +443,42 @@ def mended_not_printed(folder):
 
 
 def help_text(folder):
-    """Both usage lines of the program, every exit status, and the first command of the README; nothing is built for it."""
-    example = next(line for line in (ROOT / "README.md").read_text().splitlines() if line.startswith("    ./lepsaino "))
+    """Both usage lines of the program, every argument and exit status, the first command of the README, and files that are there; nothing is built for it."""
+    example = next(line for line in (ROOT / "README.md").read_text().splitlines() if line.startswith("$ ./lepsaino "))[2:]
     for option in ("--help", "-h"):
         done = run(folder, option)
         lines = done.stdout.decode().splitlines()
         right = done.stdout.startswith(USAGE + MEND_USAGE.replace(b"usage:", b"      "))
         right &= example.strip() in [line.strip() for line in lines]
-        right &= all(any(line.startswith(f"  {status}  ") for line in lines) for status in (0, 1, 2))
+        right &= all(any(line.startswith(f"  {status}  ") for line in lines) for status in (0, 1, 2, "FILE  ", "RATE  ", "UNIT  ", "SERIAL", "COPY  "))
+        right &= all((ROOT / name).is_file() for name in re.findall(r"docs/\w+\.md", done.stdout.decode())) and b"docs/RULES.md" in done.stdout
         check(option, right and (done.stderr, done.returncode) == (b"", 0), done)
     one = StandIn(folder)
     one.go()
-    one.run("--help")
-    check("--help builds nothing", one.calls() == 0, one.calls())
+    done = [one.run(option) for option in ("--help", "--version")]
+    check("--help and --version build nothing", one.calls() == 0, one.calls())
+    version = re.search(r"^#define LEPSAINO_VERSION (\d+)$", HEADER, re.M)[1]
+    right = (done[1].stdout, done[1].stderr, done[1].returncode) == (f"lepsaino {version}\n".encode(), b"", 0)
+    check("--version", right, done[1])
+
+
+def recipes(folder):
+    """Every command of docs/RECIPES.md gives what is shown there."""
+    faults.extend(faults_of("docs/RECIPES.md", workplace(tempfile.mkdtemp(dir=folder))))
+
+
+def keeps_cells(folder):
+    """As cells of a spreadsheet: an apostrophe stands before every key and every name, and before microseconds of more than 15 digits."""
+    def line(key, us, name):
+        bare = [number if number < 2 ** 53 else str(number) for number in (key, us)]
+        return json.dumps(dict(key=bare[0], ticks=0, us=bare[1], id=5, ptr=7, by="thread", name=name, gone=False, field=16, info=[1, 2, 3, 4])) + "\n"
+
+    events = [(7, 0, "=1+1"), (2 ** 53 - 1, 10 ** 15 - 1, "@x"), (2 ** 53, 10 ** 15, "-1"), (WHOLE, 2 ** 53, "+1"), (8, 1, 'a,"b\n'), (9, 1, "'"), (9, 1, ""), (9, 1, None)]
+    lines = "".join(line(*event) for event in events)
+    done = subprocess.run(["jq", "-rnf", ROOT / "examples/csv.jq"], input=lines, capture_output=True, text=True)
+    rows = [[f"'{key}", "0", f"'{us}" if us >= 10 ** 15 else str(us), "5", "7", "thread", "" if name is None else f"'{name}", "false", "16", "1", "2", "3", "4"]
+            for key, us, name in events]
+    check("cells", list(csv.reader(io.StringIO(done.stdout)))[1:] == rows and done.stderr == "", done)
 
 
 # Stand-ins: rt counts its calls and waits for a file before it builds, or fails; the loader runs a program of any kind.
@@ -429,8 +507,9 @@ class StandIn:
     def __init__(self, folder):
         self.root = Path(tempfile.mkdtemp(dir=folder))
         (self.root / "crates").mkdir()
-        for name in ("lepsaino", "crates.txt"):
-            shutil.copy2(ROOT / name, self.root)
+        (self.root / "include").mkdir()
+        for name in ("lepsaino", "crates.txt", "include/lepsaino.h"):
+            shutil.copy2(ROOT / name, self.root / name)
         self.put("kit/bin/rt", RT)
         self.put(f"kit/on/{platform.machine()}/toolchain/lib/ld-linux-x86-64.so.2", LOADER)
         self.put("program", PROGRAM)
@@ -569,7 +648,7 @@ with tempfile.TemporaryDirectory() as folder:
     run(folder, timeout=None)  # builds the program where it is not built yet, and says so
     for name, dump in (("pump", PUMP), ("full", FULL), ("short", PUMP[:47])):
         (Path(folder) / name).write_bytes(dump)
-    for part in (plain, not_printed, no_work_room, reader_leaves, mends, mends_over, mends_by_name, mends_nothing, mends_no_other,
+    for part in (plain, says_refusals, by_standard_input, recipes, keeps_cells, not_printed, no_work_room, reader_leaves, mends, mends_over, mends_by_name, mends_nothing, mends_no_other,
                  mended_not_printed, help_text, builds, program_fails, mend_fails, mend_stopped):
         part(folder)
 print("\n".join(faults), end="\n" if faults else "", file=sys.stderr)

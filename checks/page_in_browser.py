@@ -4,7 +4,6 @@ import json
 import pathlib
 import re
 import sys
-import textwrap
 
 ROOT = pathlib.Path(__file__).resolve().parent.parent
 sys.path.insert(0, str(ROOT / "cases"))
@@ -19,7 +18,7 @@ CONTROL, RELEASE, BACKSPACE, TAB, ENTER, SPACE, HOME, DOWN = "\ue009", "\ue000",
 SAMPLE, CUT = ((ROOT / "crates" / "lepsaino" / "data" / f"{each}.dump").read_bytes() for each in ("pump", "cut"))
 LINES = (ROOT / "crates" / "lepsaino" / "stdout").read_text()
 GIVEN = Reading(3000000, 8192, 0)
-# The header for C has the documents' words for each refusal.
+# The header for C has the words for each refusal.
 WORDS = dict(re.findall(r"^ \* {1,2}(\d+)  (.*)$", (ROOT / "include" / "lepsaino.h").read_text(), re.M))
 
 
@@ -50,7 +49,7 @@ DUMPS = {
 
 def example(command):
     """The lines that the README shows below a command."""
-    return textwrap.dedent(re.search(rf"^    {re.escape(command)}\n\n((?:    .*\n)+)", (ROOT / "README.md").read_text(), re.M)[1])
+    return re.search(rf"^\$ {re.escape(command)}\n((?:[^$`].*\n)+)", (ROOT / "README.md").read_text(), re.M)[1]
 
 
 def cells(lines):
@@ -61,8 +60,8 @@ def cells(lines):
     return [row(**json.loads(line)) for line in lines.splitlines()]
 
 
-def refusal(number, place=0, at=""):
-    return f"Refusal {number}, place {place}: {WORDS[str(number)]}{at}."
+def refusal(number, place=0):
+    return f"Refusal {number}, place {place}: {WORDS[str(number)].replace('N', str(place))}."
 
 
 # Texts as they are laid out, so that what is there but not seen counts as missing; rows that are scrolled away are not laid out.

@@ -13,10 +13,7 @@
 #include "lepsaino.h"
 
 /* One byte more than a dump may have is room enough: a longer file is refused all the same. */
-#define DUMP_ROOM 65537
-
-/* With six bytes for each byte of the longest name, and for 65 more, any listing fits, and none is measured first. */
-#define LINE_ROOM (6 * (64 + 65))
+#define DUMP_ROOM (LEPSAINO_DUMP_MOST + 1)
 
 static int fail(const char *what, const char *why)
 {
@@ -63,7 +60,7 @@ static int list(const uint8_t *dump, size_t length, struct lepsaino_reading read
     struct lepsaino_checked checked = lepsaino_check(dump, length);
     if (checked.refusal != 0)
         return refuse(checked.refusal, checked.place);
-    size_t room = checked.events * LINE_ROOM;
+    size_t room = checked.events * LEPSAINO_LINE_ROOM; /* LEPSAINO_LISTING_ROOM would do for any dump */
     uint8_t *out = malloc(room + 1); /* one more, since malloc(0) may give NULL */
     if (out == NULL)
         return fail("the listing", "no memory for it");

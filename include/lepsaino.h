@@ -1,6 +1,6 @@
 /*
- * The calls of the library for C, proved to meet the promises in docs/PROMISES.md for any bytes and any arguments.
- * The archive is for Linux on x86-64 or aarch64.
+ * The calls of the library for C, proved to meet the promises in docs/PROMISES.md for any bytes and any arguments. docs/RULES.md has the rules of a trace
+ * buffer, README.md how the archive is made; examples/ has programs. The archive is for Linux on x86-64 or aarch64.
  *
  * A length goes with each pointer. What a caller owes, and no proof can see:
  * - A pointer may be read for its length, and written for its length where it is not const. It may be null where the length is 0.
@@ -9,10 +9,9 @@
  * - Nothing writes bytes lent to be read before the call returns.
  * - The stack has room: 18 KB for lepsaino_listing, 2 KB for any other call.
  *
- * A refusal is the number and the place of document 01's table, which stands at the end of this file; 0 as its number means that the call was
- * accepted. After a refusal every field but these two is 0, and no lent byte has changed. No call keeps a pointer, allocates, or reads or writes
- * anything but what it is lent, so calls may run on several threads at once as long as the above holds. Neither a name nor a text ends with a zero
- * byte: its length is given beside it.
+ * A refusal is a number and a place; the table at the end of this file has them all. 0 as the number means that the call was accepted. After a refusal every
+ * field but these two is 0, and no lent byte has changed. No call keeps a pointer, allocates, or reads or writes anything but what it is lent, so calls may run
+ * on several threads at once as long as the above holds. Neither a name nor a text ends with a zero byte: its length is given beside it.
  */
 #ifndef LEPSAINO_H
 #define LEPSAINO_H
@@ -23,6 +22,25 @@
 #if SIZE_MAX < UINT64_MAX
 #error "lepsaino.h is for processors whose size_t has 64 bits"
 #endif
+
+/* The version, which docs/LANDINGS.md tells of; the command and the module for browsers give the same number, which stands here alone. */
+#define LEPSAINO_VERSION 17
+
+/* A dump, and a buffer that is formatted, has at most so many bytes. */
+#define LEPSAINO_DUMP_MOST 65536
+
+/* In so many bytes any line fits with its line feed, any listing, and the text of any number: 16 is never given, and nothing is measured first. */
+#define LEPSAINO_LINE_ROOM 774
+#define LEPSAINO_LISTING_ROOM 1583604
+#define LEPSAINO_NUMBER_ROOM 22
+
+/* The size of a buffer with a name size, so many entries and so many slots: formatting makes just these. LEPSAINO_DUMP_MOST is its limit. */
+#define LEPSAINO_BUFFER_SIZE(name_size, entries, slots) \
+    ((size_t)48 + (16 + (size_t)(name_size)) * (size_t)(entries) + 32 * (size_t)(slots))
+
+/* Thread pointers that are no thread's: of an event before any thread ran, and of one in an interrupt. 0 is that of an unused slot. */
+#define LEPSAINO_POINTER_INIT UINT32_C(0xF0F0F0F0)
+#define LEPSAINO_POINTER_ISR UINT32_C(0xFFFFFFFF)
 
 #ifdef __cplusplus
 extern "C" {
@@ -54,11 +72,11 @@ struct lepsaino_checked {
 
 /* The eight words of a slot, as in the buffer. */
 struct lepsaino_slot {
-    uint32_t pointer;
-    uint32_t field;
-    uint32_t id;
-    uint32_t stamp;
-    uint32_t first;
+    uint32_t pointer; /* the thread's address, or one of the two pointers above */
+    uint32_t field;   /* the priority field: of a thread its priority and preemption threshold, in an interrupt the address of the thread interrupted */
+    uint32_t id;      /* the event's id: 1 to 1024 are ThreadX's, those above are users' */
+    uint32_t stamp;   /* the timer's count; it counts only under the mask */
+    uint32_t first;   /* four information words, which mean what the event says */
     uint32_t second;
     uint32_t third;
     uint32_t fourth;
@@ -130,7 +148,14 @@ struct lepsaino_format {
     size_t entries;
 };
 
-/* What registering is given, but for the name. The reserved bytes count for a thread (type 1) alone. */
+/*
+ * The types that an object may have: 1 to 14 and 21 to 28. 1 is a thread, 2 a timer, 3 a queue, 4 a semaphore, 5 a mutex, 6 a group of event flags, 7 a pool of
+ * blocks, 8 a pool of bytes, 9 a medium, 10 a file, 11 an IP instance, 12 a pool of packets, 13 a TCP and 14 a UDP socket; 21 to 24 are of a USB host (a
+ * device, an interface, an endpoint, a class), 25 to 28 the same of a USB device.
+ */
+#define LEPSAINO_TYPE_THREAD 1
+
+/* What registering is given, but for the name. The reserved bytes count for a thread alone, whose priority ThreadX puts there. */
 struct lepsaino_object {
     uint8_t object_type;
     uint32_t pointer;
@@ -217,34 +242,35 @@ struct lepsaino_answer lepsaino_remove(uint8_t *buffer, size_t buffer_length, ui
 #endif
 
 /*
- * Refusals, by number. The place is 0 but for 11 (the lowest such entry), 12 and 13 (the lowest such slot), 20 (that entry) and 26 (the count of missing
- * bytes). 26 is the last part of checks 7 and 9: the order is 1 to 7, 26, 8, 9, 26, 10 and so on, first for the registry's end and then for the slots'.
- *  1  dump below 48 bytes
- *  2  dump or buffer above 65,536 bytes
- *  3  id is neither pattern
- *  4  mask not w ones at the bottom, w from 1 to 32
- *  5  name size not a multiple of 4 from 4 to 64
- *  6  registry start offset not 48
- *  7  registry end offset below 48, above 65,536, or not a whole number of entries
- *  8  buffer start differs from registry end
- *  9  buffer end offset not above its start, above 65,536, or not whole slots
- * 10  current offset before the start, at or past the end, or not on a slot
- * 11  an in-use entry has a type not allowed
- * 12  a slot breaks the used/unused rule
- * 13  a used slot has id 0
- * 14  clock rate 0
- * 15  unit number of two to the 24 or more, or first serial plus event count above two to the 40
- * 16  the text is longer than the output, or the copy than its room
- * 17  write with thread pointer 0
- * 18  write with event id 0
- * 19  object type not allowed
- * 20  an in-use entry has that pointer already
- * 21  no free entry
- * 22  no in-use entry has that pointer
- * 23  the name given contains a zero byte
- * 24  formatting: no room for header, registry and one slot
- * 25  no event at that position
- * 26  the upload was cut: an end offset is otherwise right and at most 65,536 but beyond the dump's length
+ * Refusals, by number; N stands for the place, which is the lowest such entry or slot, counted from 0, and for 26 the count of missing bytes. Where there is no N
+ * the place is 0. 26 is the last part of checks 7 and 9: the order is 1 to 7, 26, 8, 9, 26, 10 and so on, first for the registry's end and then for the slots'.
+ * docs/RULES.md says what a person does next. The command reads its words here.
+ *  1  the dump has fewer than 48 bytes
+ *  2  the dump or the buffer has more than 65,536 bytes
+ *  3  the first four bytes are not those of a trace buffer, in either byte order
+ *  4  the mask is not a run of ones from the lowest bit on
+ *  5  the name size is not a multiple of 4 from 4 to 64
+ *  6  the registry does not start at offset 48
+ *  7  the registry ends below offset 48, above 65,536 or within an entry
+ *  8  the slots do not start where the registry ends
+ *  9  the slots end at or before their start, above offset 65,536 or within a slot
+ * 10  current lies before the slots, behind them or within a slot
+ * 11  entry N is in use with a type that is not allowed
+ * 12  slot N is used and must be unused, or unused and must be used
+ * 13  slot N is used with the event id 0
+ * 14  the clock rate is 0
+ * 15  the unit number is above 16,777,215, or the first serial and the number of events add up to more than 1,099,511,627,776
+ * 16  the output is shorter than the text or the copy
+ * 17  the thread pointer to be written is 0
+ * 18  the event id to be written is 0
+ * 19  the type of the object is not allowed
+ * 20  entry N is in use with that pointer already
+ * 21  no entry is free
+ * 22  no entry in use has that pointer
+ * 23  the name given has a zero byte
+ * 24  the buffer has no room for the header, the registry and one slot
+ * 25  there is no event at that position
+ * 26  the dump was cut; bytes missing up to the end of its registry or its slots: N
  */
 
 #endif

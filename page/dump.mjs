@@ -49,8 +49,8 @@ function offer(link, name, content) {
   link.href = URL.createObjectURL(new Blob([content], { type: "application/octet-stream" }));
 }
 
-function refusalText({ number, place, words, at }) {
-  return `Refusal ${number}, place ${place}: ${words}${at === null ? "" : ` (${at})`}.`;
+function refusalText({ number, place, words }) {
+  return `Refusal ${number}, place ${place}: ${words}.`;
 }
 
 function eventCount(count) {
@@ -76,8 +76,8 @@ function readingGiven() {
   return { reading, faults };
 }
 
-function showEvents(text) {
-  const events = readListing(text);
+function showEvents(text, count) {
+  const events = readListing(text, { events: count });
   table.show(events);
   const marked = "A name marked (removed) is that of a thread which had been removed when the dump was taken.";
   part("caption").textContent = events.some(({ gone }) => gone) ? `Oldest first. ${marked}` : "Oldest first.";
@@ -105,7 +105,7 @@ function list(bytes, count, { reading, faults }) {
   if (faults.length > 0) return say(`${copy}${eventCount(count)}, and every check passes. To list them: ${faults.join("; ")}.`);
   const { refusal, text } = library.list(bytes, reading);
   if (refusal) return say(`${copy}${refusalText(refusal)}`);
-  showEvents(text);
+  showEvents(text, count);
   const keys = count === 0 ? "the ring is empty" : count === 1 ? "under a key of its own" : "each under a key of its own";
   say(`${copy}${eventCount(count)}, ${keys}.`);
 }

@@ -25,8 +25,16 @@ export class RefusedLine extends Error {
   constructor(line: number, column: number, reason: string);
 }
 
+/** Thrown where a refusal was given in the place of a listing: its number, its place, and both in words. */
+export class RefusedListing extends Error {
+  readonly number: number;
+  readonly place: number;
+  readonly words: string;
+  constructor(refusal: { readonly number: number; readonly place: number; readonly words: string });
+}
+
 /** One event, from the text of one line without its line feed. */
 export function readLine(text: string): ListedEvent;
 
-/** All events of a whole listing, whose every line ends in a line feed. */
-export function readListing(text: string): readonly ListedEvent[];
+/** All events of a whole listing, whose every line ends in a line feed. Where `events` is given, as a number or in digits, there must be so many. */
+export function readListing(text: string, expected?: { readonly events?: number | bigint | string }): readonly ListedEvent[];

@@ -1,4 +1,5 @@
-// Reads the listing's lines as documents 01 and 02 print them, and refuses every line of another form; no number is kept as a float unless it is safe.
+// Reads a listing's lines as docs/RULES.md has them, and refuses every line of another form; no number is kept as a float unless it is safe.
+import { refusalOf } from "./refusals.mjs";
 
 const LARGEST_OF_64_BITS = "18446744073709551615";
 const LARGEST_OF_32_BITS = "4294967295";
@@ -10,6 +11,8 @@ const LARGEST_TICKS = "8783208118275";
 const MICROSECONDS_OF_A_SECOND = 1000000n;
 const LONGEST_NAME = 64;
 
+// What the command prints in the place of a listing: the refusal's number and its place, which are small.
+const REFUSAL = /^([1-9][0-9]?) (0|[1-9][0-9]{0,14})\n$/;
 const PLAIN_DIGITS = /^(?:0|[1-9][0-9]*)$/;
 const LEADING_ZEROS = /^0[0-9]+$/;
 const NUMBER_TOKEN = /"[^"]*"?|[^",\]}]*/y;
@@ -27,14 +30,27 @@ export class RefusedLine extends Error {
   }
 }
 
+/** Thrown where a refusal was given in the place of a listing: its number, its place, and both in words. */
+export class RefusedListing extends Error {
+  constructor({ number, place, words }) {
+    super(`${number} ${place}: ${words}`);
+    this.name = "RefusedListing";
+    this.number = number;
+    this.place = place;
+    this.words = words;
+  }
+}
+
 /** One event, from the text of one line without its line feed. */
 export function readLine(text) {
   return readNumberedLine(text, 1);
 }
 
-/** All events of a whole listing, whose every line ends in a line feed. */
-export function readListing(text) {
+/** All events of a whole listing, whose every line ends in a line feed. Where `events` is given there must be so many: no text and a lost tail look like fewer. */
+export function readListing(text, { events: expected } = {}) {
   mustBeText(text);
+  const refusal = REFUSAL.exec(text);
+  if (refusal) throw new RefusedListing(refusalOf(Number(refusal[1]), Number(refusal[2])));
   const lines = text.split("\n");
   const rest = lines.pop();
   if (rest !== "") {
@@ -43,10 +59,21 @@ export function readListing(text) {
   if (lines.length > MOST_EVENTS) {
     throw new RefusedLine(MOST_EVENTS + 1, 1, `a listing has at most ${MOST_EVENTS} lines`);
   }
+  if (expected !== undefined) checkCount(lines.length, countIn(expected));
   const events = lines.map((line, index) => readNumberedLine(line, index + 1));
   events.forEach((event, index) => checkKeyAfter(events, index));
   events.forEach((event, index) => checkTicksAfter(events, index));
   return events;
+}
+
+function countIn(expected) {
+  if (typeof expected === "bigint" || Number.isSafeInteger(expected)) return BigInt(expected);
+  if (typeof expected === "string" && PLAIN_DIGITS.test(expected)) return BigInt(expected);
+  throw new TypeError("the number of events must be a whole number, or its digits");
+}
+
+function checkCount(count, expected) {
+  if (BigInt(count) !== expected) throw new RefusedLine(count + 1, 1, `the number of events is ${count}: expected ${expected}`);
 }
 
 // The keys before this one are consecutive, so one in their range is one of them.

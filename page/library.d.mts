@@ -11,14 +11,12 @@ export interface Reading {
   readonly serial: Whole;
 }
 
-/** A refusal by the documents' table. */
+/** A refusal by the table of docs/RULES.md. */
 export interface Refusal {
   readonly number: number;
   readonly place: number;
-  /** The documents' words for it. */
+  /** Both in words. */
   readonly words: string;
-  /** What the place counts, in words; null where it counts nothing. */
-  readonly at: string | null;
 }
 
 /** `refusal` tells the two apart: it is null where the call was accepted, and otherwise nothing else is there. */
@@ -63,7 +61,7 @@ export interface DumpEvent extends Name {
   by: "init" | "isr" | "thread";
 }
 
-/** What was mended, in the documents' six counts. */
+/** What was mended, in six counts. */
 export interface Counts {
   /** Slots zeroed as missing, or partly missing. */
   readonly missing: number;
@@ -93,6 +91,8 @@ export interface Pieces {
 }
 
 export interface Library {
+  /** The version of the module. */
+  readonly version: number | null;
   /** Checks 1 to 13. */
   check(dump: Bytes): Answer<Checked>;
   /** The text of all lines, oldest event first: checks 1 to 15. `readListing` of lepsaino.mjs gives its events. */

@@ -7,6 +7,8 @@ const DUMP_ROOM = 65537;
 const TEXT_ROOM = 2046 * 6 * (64 + 65);
 const ANSWER_ROOM = 256;
 const STATE_SIZE = 176;
+// page/build puts the header's version here: a module of another could be misread.
+const VERSION = null;
 
 const CALLS = ["check", "event", "find_name", "line", "listing", "mend", "begin", "feed", "finish"];
 const CONTEXTS = { 1: "init", 2: "isr", 3: "thread" };
@@ -197,9 +199,16 @@ class Pieces {
   }
 }
 
+/** The version that a module tells, in a section of its own. */
+function versionOf(module) {
+  const [section] = WebAssembly.Module.customSections(module, "lepsaino.version");
+  return section === undefined ? null : Number(new TextDecoder().decode(section));
+}
+
 /** The calls over a compiled module. Each gives `refusal`, which is null where the call was accepted, and then what it found. */
 class Library {
   #module;
+  #version;
   #instance;
 
   constructor(module) {
@@ -207,6 +216,8 @@ class Library {
     const calls = new Set(WebAssembly.Module.exports(module).map(({ name }) => name));
     const missing = CALLS.find((name) => !calls.has(`lepsaino_${name}`));
     if (missing !== undefined) throw new TypeError(`this is not lepsaino.wasm: it has no lepsaino_${missing}`);
+    this.#version = versionOf(module);
+    if (VERSION !== null && VERSION !== this.#version) throw new TypeError(`lepsaino.wasm has version ${this.#version}, and library.mjs ${VERSION}`);
     this.#module = module;
     this.#instance = new Instance(module);
   }
@@ -225,6 +236,11 @@ class Library {
       instance.call(name, ...instance.lent(dump), ...words(instance));
       return instance.answered(() => fields(instance));
     });
+  }
+
+  /** The version of the module. */
+  get version() {
+    return this.#version;
   }
 
   /** The byte order, the header's fields and the number of events: checks 1 to 13. */

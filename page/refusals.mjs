@@ -1,44 +1,36 @@
-// The documents' refusals: the words for each number, and what its place counts.
+// Refusals in the words of the header for C; N stands for the place.
 
 const WORDS = [
-  "dump below 48 bytes",
-  "dump or buffer above 65,536 bytes",
-  "id is neither pattern",
-  "mask not w ones at the bottom, w from 1 to 32",
-  "name size not a multiple of 4 from 4 to 64",
-  "registry start offset not 48",
-  "registry end offset below 48, above 65,536, or not a whole number of entries",
-  "buffer start differs from registry end",
-  "buffer end offset not above its start, above 65,536, or not whole slots",
-  "current offset before the start, at or past the end, or not on a slot",
-  "an in-use entry has a type not allowed",
-  "a slot breaks the used/unused rule",
-  "a used slot has id 0",
-  "clock rate 0",
-  "unit number of two to the 24 or more, or first serial plus event count above two to the 40",
-  "the text is longer than the output, or the copy than its room",
-  "write with thread pointer 0",
-  "write with event id 0",
-  "object type not allowed",
-  "an in-use entry has that pointer already",
-  "no free entry",
-  "no in-use entry has that pointer",
-  "the name given contains a zero byte",
-  "formatting: no room for header, registry and one slot",
-  "no event at that position",
-  "the upload was cut: an end offset is otherwise right and at most 65,536 but beyond the dump's length",
+  "the dump has fewer than 48 bytes",
+  "the dump or the buffer has more than 65,536 bytes",
+  "the first four bytes are not those of a trace buffer, in either byte order",
+  "the mask is not a run of ones from the lowest bit on",
+  "the name size is not a multiple of 4 from 4 to 64",
+  "the registry does not start at offset 48",
+  "the registry ends below offset 48, above 65,536 or within an entry",
+  "the slots do not start where the registry ends",
+  "the slots end at or before their start, above offset 65,536 or within a slot",
+  "current lies before the slots, behind them or within a slot",
+  "entry N is in use with a type that is not allowed",
+  "slot N is used and must be unused, or unused and must be used",
+  "slot N is used with the event id 0",
+  "the clock rate is 0",
+  "the unit number is above 16,777,215, or the first serial and the number of events add up to more than 1,099,511,627,776",
+  "the output is shorter than the text or the copy",
+  "the thread pointer to be written is 0",
+  "the event id to be written is 0",
+  "the type of the object is not allowed",
+  "entry N is in use with that pointer already",
+  "no entry is free",
+  "no entry in use has that pointer",
+  "the name given has a zero byte",
+  "the buffer has no room for the header, the registry and one slot",
+  "there is no event at that position",
+  "the dump was cut; bytes missing up to the end of its registry or its slots: N",
 ];
 
-const PLACES = new Map([
-  [11, (place) => `entry ${place}`],
-  [12, (place) => `slot ${place}`],
-  [13, (place) => `slot ${place}`],
-  [20, (place) => `entry ${place}`],
-  [26, (place) => `missing bytes up to that end: ${place}`],
-]);
-
-/** A refusal's number, its place, and the documents' words for it; `at` says what the place counts, and is null where a place is always 0. */
+/** A refusal's number, its place, and both in words. */
 export function refusalOf(number, place) {
   const words = WORDS[number - 1] ?? "a refusal that is not known here";
-  return Object.freeze({ number, place, words, at: PLACES.get(number)?.(place) ?? null });
+  return Object.freeze({ number, place, words: words.replace("N", place) });
 }

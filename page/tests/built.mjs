@@ -1,10 +1,16 @@
 // What page/build and peer/build-module made, in the folder that LEPSAINO_BUILT names; checks/page.py sees to it.
 import { readFileSync } from "node:fs";
+import { pathToFileURL } from "node:url";
 
-export function built(name) {
+/** Where a file of it lies. */
+export function addressOf(name) {
   const folder = process.env.LEPSAINO_BUILT;
   if (!folder) throw new Error("LEPSAINO_BUILT must name the folder that page/build made, with lepsaino-O0.wasm beside");
-  return readFileSync(`${folder}/${name}`);
+  return pathToFileURL(`${folder}/${name}`);
+}
+
+export function built(name) {
+  return readFileSync(addressOf(name));
 }
 
 /** A file of the project. */

@@ -2,7 +2,7 @@
 import assert from "node:assert/strict";
 import { readFileSync } from "node:fs";
 import test from "node:test";
-import { RefusedLine, readLine, readListing } from "../lepsaino.mjs";
+import { RefusedLine, RefusedListing, readLine, readListing } from "../lepsaino.mjs";
 
 const CORPUS_ANSWERS = new URL("../../crates/corpus/stdout", import.meta.url);
 const PEER_KEYS = new URL("../../peer/keys", import.meta.url);
@@ -307,7 +307,7 @@ test("a listing is whole lines whose keys go up by one", () => {
   refusesListing(line(), 1, /cut off/);
   refusesListing(listingOfKeys("7") + line({ key: "8" }), 2, /cut off/);
   refusesListing(listingOfKeys("7") + "{", 2, /cut off/);
-  for (const text of ["\n", "\r\n", "4 0\n"]) refusesListing(text, 1, /expected/);
+  for (const text of ["\n", "\r\n"]) refusesListing(text, 1, /expected/);
   refusesListing(`${listingOfKeys("7")}\n`, 2, /expected/);
   refusesListing(listingOfKeys("7").replace("\n", "\r\n"), 1, /text follows/);
   refusesListing(listingOfKeys("7", "8", "1e3"), 3, /not plain digits/);
@@ -318,6 +318,38 @@ test("a listing is whole lines whose keys go up by one", () => {
   refusesListing(listingOfKeys("1099511627775", "1099511627776"), 2, /next unit/);
   refusesListing(listingOfKeys("9007199254740991", '"9007199254740992"'), 2, /next unit/);
   for (const given of [undefined, null, 7, [line()]]) refusesListing(given, 1, /not a text/);
+});
+
+test("a refusal in the place of a listing is told as one", () => {
+  const refusal = { name: "RefusedListing", number: 11, place: 3, words: "entry 3 is in use with a type that is not allowed" };
+  const isTold = (error) => error instanceof RefusedListing && !(error instanceof RefusedLine);
+  assert.throws(() => readListing("11 3\n"), { ...refusal, message: "11 3: entry 3 is in use with a type that is not allowed" });
+  for (const text of ["1 0\n", "2 0\n", "15 0\n", "26 65488\n", "99 0\n", "26 999999999999999\n"]) assert.throws(() => readListing(text), isTold);
+  // Also where a number of events is expected.
+  assert.throws(() => readListing("11 3\n", { events: 0 }), refusal);
+  assert.throws(() => readListing("27 5\n"), { number: 27, place: 5, words: "a refusal that is not known here" });
+  for (const text of ["11 3", "11", "11 3\r\n", " 11 3\n", "11  3\n", "11 3 \n", "011 3\n", "0 0\n", "11 03\n", "100 3\n", "-1 0\n", "11 3\n\n", "11 3\n11 3\n", "26 1e3\n"]) {
+    refusesListing(text, 1, /expected|cut off/);
+  }
+  refusesListing(`${listingOfKeys("7")}11 3\n`, 2, /expected/);
+  refuses("11 3", /expected/);
+});
+
+test("a listing has as many events as are expected, where a number is given", () => {
+  const two = listingOfKeys("7", "8");
+  for (const events of [2, 2n, "2", undefined]) assert.equal(readListing(two, { events }).length, 2);
+  for (const events of [0, 0n, "0", -0]) assert.deepEqual(readListing("", { events }), []);
+  assert.equal(readListing(two, {}).length, 2);
+  const isAnother = (text, events, line) =>
+    assert.throws(() => readListing(text, { events }), (error) => isRefusal(error, line, new RegExp(`number of events is ${line - 1}: expected ${events}$`), 1));
+  isAnother("", 3, 1);
+  isAnother(two, 3, 3);
+  isAnother(two, 1n, 3);
+  isAnother(two, "0", 3);
+  // A tail that is lost within a line is found without a number.
+  refusesListing(two.slice(0, -1), 2, /cut off/);
+  // A number that is missing, or that a float has changed, is a mistake of the page, and never 0.
+  for (const events of [null, "", " 2", "2 ", "2.0", "02", "two", 2.5, NaN, 2 ** 53, true, {}, [2]]) assert.throws(() => readListing(two, { events }), TypeError);
 });
 
 test("a listing's ticks begin at 0 and go on by less than the widest timer's range", () => {

@@ -5,13 +5,13 @@ import { runInNewContext } from "node:vm";
 import { readListing } from "../lepsaino.mjs";
 import { load } from "../library.mjs";
 import { refusalOf } from "../refusals.mjs";
-import { CASES, CORPUS, built, kept } from "./built.mjs";
+import { CASES, CORPUS, addressOf, built, kept } from "./built.mjs";
 import { RawAnswerer } from "./raw.mjs";
 import { repliesOf } from "./replies.mjs";
 
 const SAMPLE = kept("crates/lepsaino/data/pump.dump");
 const CUT = kept("crates/lepsaino/data/cut.dump");
-// Document 01's lines, as document 02 amends them.
+// The lines of the whole case of docs/RULES.md.
 const LINES = kept("crates/lepsaino/stdout").toString("latin1");
 const READING = { rate: 3000000, unit: 8192, serial: 0 };
 
@@ -58,22 +58,19 @@ test("ticks, and all that a line has above 2^53, are BigInts", () => {
   assert.equal(events[1].us, 56000000n);
 });
 
-test("a refusal has its number, its place and the documents' words", () => {
+test("a refusal has its number, its place and both in words", () => {
   assert.deepEqual(library.check(SAMPLE.subarray(0, 47)), {
-    refusal: { number: 1, place: 0, words: "dump below 48 bytes", at: null },
+    refusal: { number: 1, place: 0, words: "the dump has fewer than 48 bytes" },
   });
   assert.deepEqual(library.list(CUT, READING), {
-    refusal: {
-      number: 26, place: 18, at: "missing bytes up to that end: 18",
-      words: "the upload was cut: an end offset is otherwise right and at most 65,536 but beyond the dump's length",
-    },
+    refusal: { number: 26, place: 18, words: "the dump was cut; bytes missing up to the end of its registry or its slots: 18" },
   });
   assert.deepEqual(library.check(changed(SAMPLE, 49, 15)), refused(11, 0));
   assert.deepEqual(library.check(changed(SAMPLE, 144, 0, 0, 0, 0)), refused(13, 2));
   assert.deepEqual(library.check(changed(SAMPLE, 72, 0, 0, 0, 0)), refused(12, 0));
-  assert.equal(library.check(changed(SAMPLE, 144, 0, 0, 0, 0)).refusal.at, "slot 2");
-  assert.equal(library.check(changed(SAMPLE, 72, 0, 0, 0, 0)).refusal.at, "slot 0");
-  assert.equal(library.check(changed(SAMPLE, 49, 15)).refusal.at, "entry 0");
+  assert.match(library.check(changed(SAMPLE, 144, 0, 0, 0, 0)).refusal.words, /^slot 2 is used with/);
+  assert.match(library.check(changed(SAMPLE, 72, 0, 0, 0, 0)).refusal.words, /^slot 0 is used and/);
+  assert.match(library.check(changed(SAMPLE, 49, 15)).refusal.words, /^entry 0 is in use/);
   assert.deepEqual(library.list(SAMPLE, { ...READING, rate: 0 }), refused(14, 0));
   assert.deepEqual(library.list(SAMPLE, { ...READING, unit: 16777216 }), refused(15, 0));
   assert.deepEqual(library.event(SAMPLE, 3), refused(25, 0));
@@ -87,7 +84,7 @@ test("the words are those of the header's table, and every number has some", () 
   assert.equal(table.length, 26);
   table.forEach(([, number, words], index) => {
     assert.equal(Number(number), index + 1);
-    assert.equal(refusalOf(index + 1, 0).words, words);
+    assert.equal(refusalOf(index + 1, 65536).words, words.replace(/\bN\b/, "65536"));
   });
 });
 
@@ -268,6 +265,21 @@ test("another module is not taken for ours", async () => {
   await assert.rejects(load(importing), /this is not lepsaino.wasm: it has imports/);
   await assert.rejects(load(moduleBytes.subarray(0, 1000)), WebAssembly.CompileError);
   for (const other of [null, 7, {}]) await assert.rejects(load(other), /the module must be/);
+});
+
+test("the loader that is given out takes modules of its own version alone", async () => {
+  const { load: loadBuilt } = await import(addressOf("library.mjs"));
+  const version = Number(kept("include/lepsaino.h").toString().match(/^#define LEPSAINO_VERSION (\d+)$/m)[1]);
+  assert.equal((await loadBuilt(moduleBytes)).version, version);
+  assert.equal(library.version, version);
+  const digits = Buffer.from(`lepsaino.version${version}`);
+  const at = moduleBytes.indexOf(digits);
+  // Its digits are the last bytes of the module, and the section begins three bytes before its name.
+  assert.equal(at + digits.length, moduleBytes.length);
+  const other = Buffer.from(moduleBytes);
+  other[other.length - 1] ^= 1;
+  await assert.rejects(loadBuilt(other), new RegExp(`lepsaino.wasm has version ${version ^ 1}, and library.mjs ${version}$`));
+  await assert.rejects(loadBuilt(moduleBytes.subarray(0, at - 3)), new RegExp(`lepsaino.wasm has version null, and library.mjs ${version}$`));
 });
 
 /** What a call that always has room enough would have given in less. */

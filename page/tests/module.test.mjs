@@ -56,6 +56,12 @@ for (const { level, file } of LEVELS) {
     assert.deepEqual(WebAssembly.Module.exports(module).sort(byName), expected.sort(byName));
   });
 
+  test(`${level}: the version is the header's`, () => {
+    const [section, ...others] = WebAssembly.Module.customSections(moduleIn(file), "lepsaino.version");
+    assert.equal(Buffer.from(section).toString(), header().match(/^#define LEPSAINO_VERSION (\d+)$/m)[1]);
+    assert.deepEqual(others, []);
+  });
+
   test(`${level}: the memory has 2 MB and does not grow`, () => {
     const { memory } = exportsOf(moduleIn(file));
     assert.equal(memory.buffer.byteLength, MEMORY_SIZE);

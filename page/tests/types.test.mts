@@ -1,12 +1,40 @@
 // What an editor makes of the types: each line below must be taken, and each behind @ts-expect-error refused.
+import { fetchListing } from "../fetched.mjs";
 import { load, type Answer, type Checked, type Library, type Pieces } from "../library.mjs";
-import { readListing, RefusedLine, type ListedEvent } from "../lepsaino.mjs";
+import { readLine, readListing, RefusedLine, RefusedListing, type ListedEvent } from "../lepsaino.mjs";
 
 export function use(library: Library, dump: Uint8Array): void {
   const answer = library.list(dump, { rate: 3000000, unit: 8192n, serial: 0 });
   // @ts-expect-error: there may be a refusal and no text.
   readListing(answer.text);
   if (answer.refusal === null) readListing(answer.text).map(({ key }): bigint => key);
+  const version: number | null = library.version;
+  // @ts-expect-error: a module's version cannot be changed.
+  library.version = 1;
+  void version;
+}
+
+export function counted(text: string, digits: string): readonly ListedEvent[][] {
+  // @ts-expect-error: a header that is missing is no number of events.
+  readListing(text, { events: null });
+  return [[...readListing(text, { events: 3 })], [...readListing(text, { events: 3n })], [...readListing(text, { events: digits })], [readLine(text)]];
+}
+
+export async function fetched(asked: URLSearchParams): Promise<bigint[]> {
+  // @ts-expect-error: what is not in an address is no number of events.
+  await fetchListing("pump.jsonl", asked.get("events"));
+  return (await fetchListing("pump.jsonl", asked.get("events") ?? "")).map(({ key }) => key);
+}
+
+export function reasonFor(text: string): string | null {
+  try {
+    readListing(text);
+    return null;
+  } catch (error) {
+    if (error instanceof RefusedListing) return `${error.number + error.place}: ${error.words}`;
+    if (error instanceof RefusedLine) return error.message;
+    throw error;
+  }
 }
 
 // As the README has it.

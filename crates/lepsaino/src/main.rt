@@ -1,4 +1,4 @@
-// lepsaino FILE RATE UNIT SERIAL: prints the listing of a dump, or the refusal's number, a space and its place as one line.
+// lepsaino FILE RATE UNIT SERIAL: prints the listing of a dump, or the refusal's number, a space and its place as one line. FILE may be a dash.
 // A usage or file error is one line on standard error, and nothing on standard output. With `mend` first it mends a dump instead.
 mod mends;
 mod shared;
