@@ -26,15 +26,15 @@
 /* The version, which docs/LANDINGS.md tells of; the command and the module for browsers give the same number, which stands here alone. */
 #define LEPSAINO_VERSION 17
 
-/* A dump, and a buffer that is formatted, has at most so many bytes. */
+/* A dump, and a buffer that is formatted, has at most so many bytes; a mended copy always fits in so many. */
 #define LEPSAINO_DUMP_MOST 65536
 
-/* In so many bytes any line fits with its line feed, any listing, and the text of any number: 16 is never given, and nothing is measured first. */
+/* In so many bytes any line fits with its line feed, any listing, and the text of any number; nothing is measured first then. */
 #define LEPSAINO_LINE_ROOM 774
 #define LEPSAINO_LISTING_ROOM 1583604
 #define LEPSAINO_NUMBER_ROOM 22
 
-/* The size of a buffer with a name size, so many entries and so many slots: formatting makes just these. LEPSAINO_DUMP_MOST is its limit. */
+/* The size of a buffer with a name size, so many entries and so many slots, 1 or more: formatting makes just these. LEPSAINO_DUMP_MOST is its limit. */
 #define LEPSAINO_BUFFER_SIZE(name_size, entries, slots) \
     ((size_t)48 + (16 + (size_t)(name_size)) * (size_t)(entries) + 32 * (size_t)(slots))
 
@@ -186,7 +186,7 @@ struct lepsaino_pieces {
     size_t unused;
     size_t behind;
     size_t no_id;
-    size_t total;        /* how many bytes have come, 65,537 where there were more */
+    size_t total;        /* how many bytes have come, 65,537 at most */
 };
 
 /* Checks a dump: 1 to 13. */
@@ -228,7 +228,7 @@ struct lepsaino_mended lepsaino_mend(const uint8_t *dump, size_t dump_length, ui
 /* Formats a buffer: checks 2, 4, 5, 24. The value is the number of slots; bytes left over stay. */
 struct lepsaino_answer lepsaino_format(uint8_t *buffer, size_t buffer_length, struct lepsaino_format format);
 
-/* Records an event in the slot at current, its stamp cut by the mask, and moves current on by one slot: checks 1 to 10, 17, 18. The value is the index of the slot filled. */
+/* Records an event: overwrites the slot at current, keeping of the stamp what is under the mask, and moves current on. Checks 1 to 10, 17, 18. The value is that slot's index. */
 struct lepsaino_answer lepsaino_record(uint8_t *buffer, size_t buffer_length, struct lepsaino_slot slot);
 
 /* Registers an object in the lowest free entry, its name cut to the name size: checks 1 to 10, 19, 23, 20, 21. The value is the entry's index. */
@@ -254,7 +254,7 @@ struct lepsaino_answer lepsaino_remove(uint8_t *buffer, size_t buffer_length, ui
  *  7  the registry ends below offset 48, above 65,536 or within an entry
  *  8  the slots do not start where the registry ends
  *  9  the slots end at or before their start, above offset 65,536 or within a slot
- * 10  current lies before the slots, behind them or within a slot
+ * 10  current lies before the slots, behind them or inside a slot, not at its start
  * 11  entry N is in use with a type that is not allowed
  * 12  slot N is used and must be unused, or unused and must be used
  * 13  slot N is used with the event id 0

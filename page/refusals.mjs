@@ -10,7 +10,7 @@ const WORDS = [
   "the registry ends below offset 48, above 65,536 or within an entry",
   "the slots do not start where the registry ends",
   "the slots end at or before their start, above offset 65,536 or within a slot",
-  "current lies before the slots, behind them or within a slot",
+  "current lies before the slots, behind them or inside a slot, not at its start",
   "entry N is in use with a type that is not allowed",
   "slot N is used and must be unused, or unused and must be used",
   "slot N is used with the event id 0",
