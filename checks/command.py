@@ -33,8 +33,9 @@ EMPTY = PUMP[:32] + PUMP[24:28] + PUMP[36:72] + bytes(96)
 FULL = Dump(entries=0, slots=2046).use(*range(2046)).bytes("<")
 FULL_LINES = listing(FULL, Reading(3000000, 8192, 0), 1500000).encode()
 CUT = (ROOT / "crates/lepsaino/data/cut.dump").read_bytes()
-USAGE = b"usage: lepsaino FILE RATE UNIT SERIAL\n"
-MEND_USAGE = b"usage: lepsaino mend FILE COPY\n"
+USAGE = b"usage: lepsaino FILE RATE UNIT SERIAL, or lepsaino mend FILE COPY; lepsaino --help says more\n"
+MEND_USAGE = b"usage: lepsaino mend FILE COPY; lepsaino --help says more\n"
+HELP = b"usage: lepsaino FILE RATE UNIT SERIAL\n       lepsaino mend FILE COPY\n       lepsaino --help | --version\n"
 HEADER = (ROOT / "include/lepsaino.h").read_text()
 WORDS = dict(re.findall(r"^ \* {1,2}(\d+)  (.*)$", HEADER, re.M))
 GOOD = ("3000000", "8192", "0")
@@ -57,9 +58,10 @@ def in_words(refusal):
     return f"lepsaino: {number}: {WORDS[number].replace('N', place)}\n".encode()
 
 
-def wrong(number, name):
-    """What is said of an argument that is no number of its range."""
-    return f"{name} is no decimal number from 0 to {number}\n".encode()
+def wrong(name):
+    """What is said of an argument that is no number, or too large for its type: the range that is accepted, by the rules."""
+    least, most = {"RATE": (1, HALF), "UNIT": (0, 2 ** 24 - 1), "SERIAL": (0, 2 ** 40)}[name]
+    return f"{name} is no decimal number from {least} to {most}\n".encode()
 
 
 def removed_threads():
@@ -117,13 +119,13 @@ CASES = [
     (b"", ("1", "0", "0"), b"1 0\n", None, 1),
     (PUMP, ("0", "8192", "0"), b"14 0\n", None, 1),
     (PUMP, ("1", str(HALF), str(WHOLE)), b"15 0\n", None, 1),
-    (PUMP, (str(HALF + 1), "8192", "0"), b"", wrong(HALF, "RATE"), 2),
-    (PUMP, ("1", str(HALF + 1), "0"), b"", wrong(HALF, "UNIT"), 2),
-    (PUMP, ("1", "1", str(WHOLE + 1)), b"", wrong(WHOLE, "SERIAL"), 2),
-    (PUMP, ("1", "1", str(WHOLE * 10)), b"", wrong(WHOLE, "SERIAL"), 2),
-    (PUMP, ("", "8192", "0"), b"", wrong(HALF, "RATE"), 2),
-    (PUMP, ("-1", "8192", "0"), b"", wrong(HALF, "RATE"), 2),
-    (PUMP, ("1", "0x10", "0"), b"", wrong(HALF, "UNIT"), 2),
+    (PUMP, (str(HALF + 1), "8192", "0"), b"", wrong("RATE"), 2),
+    (PUMP, ("1", str(HALF + 1), "0"), b"", wrong("UNIT"), 2),
+    (PUMP, ("1", "1", str(WHOLE + 1)), b"", wrong("SERIAL"), 2),
+    (PUMP, ("1", "1", str(WHOLE * 10)), b"", wrong("SERIAL"), 2),
+    (PUMP, ("", "8192", "0"), b"", wrong("RATE"), 2),
+    (PUMP, ("-1", "8192", "0"), b"", wrong("RATE"), 2),
+    (PUMP, ("1", "0x10", "0"), b"", wrong("UNIT"), 2),
     (PUMP, ("1", "8192"), b"", USAGE, 2),
     (PUMP, ("1", "8192", "0", "0"), b"", USAGE, 2),
 ]
@@ -218,7 +220,7 @@ def not_printed(folder):
                     done = run(folder, *arguments, stdout=out, preexec_fn=limit(room), restore_signals=restored)
                 must_fail(f"{what}, room for {room} bytes", done, whole + b"File too large")
                 wrote = (Path(folder) / "out").read_bytes()
-                check(f"{what}, what {room} bytes hold", wrote == (text or USAGE)[:room], wrote)
+                check(f"{what}, what {room} bytes hold", wrote == (text or HELP)[:room], wrote)
 
 
 def no_work_room(folder):
@@ -231,7 +233,7 @@ def no_work_room(folder):
         ):
             done = run(folder, *arguments, **options)
             error = b"none: No such file or directory\n" if status == 2 else error_of(text, status)
-            printed = done.stdout.startswith(USAGE) if text is None else done.stdout == text
+            printed = done.stdout.startswith(HELP) if text is None else done.stdout == text
             check(f"{what}, {where}", printed and (done.stderr, done.returncode) == (error, status), done)
 
 
@@ -443,12 +445,12 @@ def mended_not_printed(folder):
 
 
 def help_text(folder):
-    """Both usage lines of the program, every argument and exit status, the first command of the README, and files that are there; nothing is built for it."""
+    """All forms of use, every argument and exit status, the first command of the README, and files that are there; nothing is built for it."""
     example = next(line for line in (ROOT / "README.md").read_text().splitlines() if line.startswith("$ ./lepsaino "))[2:]
     for option in ("--help", "-h"):
         done = run(folder, option)
         lines = done.stdout.decode().splitlines()
-        right = done.stdout.startswith(USAGE + MEND_USAGE.replace(b"usage:", b"      "))
+        right = done.stdout.startswith(HELP)
         right &= example.strip() in [line.strip() for line in lines]
         right &= all(any(line.startswith(f"  {status}  ") for line in lines) for status in (0, 1, 2, "FILE  ", "RATE  ", "UNIT  ", "SERIAL", "COPY  "))
         right &= all((ROOT / name).is_file() for name in re.findall(r"docs/\w+\.md", done.stdout.decode())) and b"docs/RULES.md" in done.stdout

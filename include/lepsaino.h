@@ -1,6 +1,7 @@
 /*
  * The calls of the library for C, proved to meet the promises in docs/PROMISES.md for any bytes and any arguments. docs/RULES.md has the rules of a trace
- * buffer, README.md how the archive is made; examples/ has programs. The archive is for Linux on x86-64 or aarch64.
+ * buffer, README.md how the archive is made; examples/ has programs. The archive is for Linux on x86-64 or aarch64, and needs
+ * nothing but memset. In C++ `struct` must stand before lepsaino_event and lepsaino_format where they are types: they are calls too.
  *
  * A length goes with each pointer. What a caller owes, and no proof can see:
  * - A pointer may be read for its length, and written for its length where it is not const. It may be null where the length is 0.
@@ -73,7 +74,7 @@ struct lepsaino_checked {
 /* The eight words of a slot, as in the buffer. */
 struct lepsaino_slot {
     uint32_t pointer; /* the thread's address, or one of the two pointers above */
-    uint32_t field;   /* the priority field: of a thread its priority and preemption threshold, in an interrupt the address of the thread interrupted */
+    uint32_t field;   /* the priority field: of a thread its priority and preemption threshold, as ThreadX packs them; in an interrupt the address of the thread interrupted */
     uint32_t id;      /* the event's id: 1 to 1024 are ThreadX's, those above are users' */
     uint32_t stamp;   /* the timer's count; it counts only under the mask */
     uint32_t first;   /* four information words, which mean what the event says */

@@ -1,6 +1,7 @@
 // The types of lepsaino.mjs, for editors.
+import type { Refusal } from "./library.mjs";
 
-/** One line of a listing. Numbers that may pass 2^53 are BigInts. */
+/** One line of a listing. `key` and `us` may pass 2^53, and are BigInts, as `ticks` is. */
 export interface ListedEvent {
   readonly key: bigint;
   readonly keyText: string;
@@ -30,8 +31,11 @@ export class RefusedListing extends Error {
   readonly number: number;
   readonly place: number;
   readonly words: string;
-  constructor(refusal: { readonly number: number; readonly place: number; readonly words: string });
+  constructor(refusal: Refusal);
 }
+
+/** The refusal that a text is, as the command prints it, or null. */
+export function refusalIn(text: string): Refusal | null;
 
 /** One event, from the text of one line without its line feed. */
 export function readLine(text: string): ListedEvent;

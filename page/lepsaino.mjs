@@ -41,6 +41,12 @@ export class RefusedListing extends Error {
   }
 }
 
+/** The refusal that a text is, as the command prints it, or null. */
+export function refusalIn(text) {
+  const [, number, place] = REFUSAL.exec(text) ?? [];
+  return number === undefined ? null : refusalOf(Number(number), Number(place));
+}
+
 /** One event, from the text of one line without its line feed. */
 export function readLine(text) {
   return readNumberedLine(text, 1);
@@ -49,8 +55,8 @@ export function readLine(text) {
 /** All events of a whole listing, whose every line ends in a line feed. Where `events` is given there must be so many: no text and a lost tail look like fewer. */
 export function readListing(text, { events: expected } = {}) {
   mustBeText(text);
-  const refusal = REFUSAL.exec(text);
-  if (refusal) throw new RefusedListing(refusalOf(Number(refusal[1]), Number(refusal[2])));
+  const refusal = refusalIn(text);
+  if (refusal !== null) throw new RefusedListing(refusal);
   const lines = text.split("\n");
   const rest = lines.pop();
   if (rest !== "") {

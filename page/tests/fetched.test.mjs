@@ -34,7 +34,10 @@ test("what failed is never an empty ring", async () => {
   await assert.rejects(fetched(200, "", 3), RefusedLine);
   await assert.rejects(fetched(200, LINES.split("\n").slice(0, 2).join("\n") + "\n", 3), /the number of events is 2: expected 3/);
   await assert.rejects(fetched(200, LINES.slice(0, -1), 3), /cut off/);
-  await assert.rejects(fetched(200, "26 18\n", 3), (error) => error instanceof RefusedListing && error.number === 26 && error.place === 18);
+  for (const status of [200, 422, 500]) {
+    await assert.rejects(fetched(status, "26 18\n", 3), (error) => error instanceof RefusedListing && error.number === 26 && error.place === 18);
+  }
+  await assert.rejects(fetched(422, LINES, 3), /status 422$/);
   await assert.rejects(fetched(200, "<!DOCTYPE html>\n", 1), RefusedLine);
 });
 

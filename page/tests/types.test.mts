@@ -26,6 +26,11 @@ export async function fetched(asked: URLSearchParams): Promise<bigint[]> {
   return (await fetchListing("pump.jsonl", asked.get("events") ?? "")).map(({ key }) => key);
 }
 
+// As docs/PAGE.md has it.
+export function newestFirst(text: string): ListedEvent[] {
+  return [...readListing(text)].sort((one, other) => (one.key < other.key ? 1 : -1));
+}
+
 export function reasonFor(text: string): string | null {
   try {
     readListing(text);

@@ -44,7 +44,7 @@ fn list_with(reading: Reading) {
     let mut space = io::buffer();
     let n = os::arg(1, &mut space);
     if n == 0 {
-        say(b"FILE is empty, or longer than 4096 bytes\n");
+        say(b"FILE's name is empty, or longer than 4096 bytes\n");
         return;
     }
     list_file(&space[..n], reading);
@@ -61,22 +61,22 @@ fn argument_at(i: usize, most: u64) -> Argument
 
 fn list_by_arguments() {
     if os::arg_count() != 5 {
-        say(b"usage: lepsaino FILE RATE UNIT SERIAL\n");
+        say(b"usage: lepsaino FILE RATE UNIT SERIAL, or lepsaino mend FILE COPY; lepsaino --help says more\n");
         return;
     }
     let rate = argument_at(2, 4294967295);
     let Argument::Number(rate) = rate else {
-        say(b"RATE is no decimal number from 0 to 4294967295\n");
+        say(b"RATE is no decimal number from 1 to 4294967295\n");
         return;
     };
     let unit = argument_at(3, 4294967295);
     let Argument::Number(unit) = unit else {
-        say(b"UNIT is no decimal number from 0 to 4294967295\n");
+        say(b"UNIT is no decimal number from 0 to 16777215\n");
         return;
     };
     let serial = argument_at(4, 18446744073709551615);
     let Argument::Number(serial) = serial else {
-        say(b"SERIAL is no decimal number from 0 to 18446744073709551615\n");
+        say(b"SERIAL is no decimal number from 0 to 1099511627776\n");
         return;
     };
     let rate = rate as u32;

@@ -77,19 +77,19 @@ fn mend_file(from: &[u8], to: &[u8]) {
 
 pub(crate) fn mend_by_arguments() {
     if os::arg_count() != 4 {
-        say(b"usage: lepsaino mend FILE COPY\n");
+        say(b"usage: lepsaino mend FILE COPY; lepsaino --help says more\n");
         return;
     }
     let mut from = io::buffer();
     let n = os::arg(2, &mut from);
     if n == 0 {
-        say(b"FILE is empty, or longer than 4096 bytes\n");
+        say(b"FILE's name is empty, or longer than 4096 bytes\n");
         return;
     }
     let mut to = io::buffer();
     let m = os::arg(3, &mut to);
     if m == 0 {
-        say(b"COPY is empty, or longer than 4096 bytes\n");
+        say(b"COPY's name is empty, or longer than 4096 bytes\n");
         return;
     }
     mend_file(&from[..n], &to[..m]);
