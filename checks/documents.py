@@ -96,6 +96,8 @@ def main():
         faults.append(f"README.md has {words} words")
     with tempfile.TemporaryDirectory() as place, tempfile.TemporaryDirectory() as page:
         workplace(place)
+        # A first use may build, and says so.
+        subprocess.run([ROOT / "lepsaino"], capture_output=True)
         for document in RUN:
             faults += faults_of(document, place)
         faults += run_snippets(pathlib.Path(page))

@@ -61,7 +61,9 @@ fn argument_at(i: usize, most: u64) -> Argument
 
 fn list_by_arguments() {
     if os::arg_count() != 5 {
-        say(b"usage: lepsaino FILE RATE UNIT SERIAL, or lepsaino mend FILE COPY; lepsaino --help says more\n");
+        say(
+            b"usage: lepsaino FILE RATE UNIT SERIAL, or lepsaino mend FILE COPY; lepsaino --help says more\n",
+        );
         return;
     }
     let rate = argument_at(2, 4294967295);
