@@ -25,7 +25,7 @@ sys.path.insert(0, str(ROOT / "cases"))
 
 from dumps import Dump, entry
 from reader import Reading, listing
-from snippets import faults_of, workplace
+from snippets import faults_of, working_folder
 
 PUMP = (ROOT / "crates/lepsaino/data/pump.dump").read_bytes()
 LINES = (ROOT / "crates/lepsaino/stdout").read_bytes()
@@ -466,7 +466,7 @@ def help_text(folder):
 
 def recipes(folder):
     """Every command of docs/RECIPES.md gives what is shown there."""
-    faults.extend(faults_of("docs/RECIPES.md", workplace(tempfile.mkdtemp(dir=folder))))
+    faults.extend(faults_of("docs/RECIPES.md", working_folder(tempfile.mkdtemp(dir=folder))))
 
 
 def keeps_cells(folder):

@@ -8,7 +8,7 @@ import tempfile
 
 sys.dont_write_bytecode = True
 
-from snippets import ROOT, blocks, faults_of, languages, steps, workplace
+from snippets import ROOT, blocks, faults_of, languages, steps, working_folder
 
 # docs/RECIPES.md is run by checks/command.py.
 RUN = ["README.md", "docs/RULES.md", "docs/AUDIT.md", "docs/PAGE.md"]
@@ -62,11 +62,16 @@ def commands_in_sentences():
                 yield f"{document}: {command} is run nowhere"
 
 
+def has_indented(document):
+    """Whether there is a block without a fence, which would not be run."""
+    return re.search(r"\n\n {4}\S", (ROOT / document).read_text()) is not None
+
+
 def tables():
     """The refusals of the rules are the header's, and the version is that of the last landing."""
     told = re.findall(r"^ \* {1,2}(\d+)  (.*)$", HEADER, re.M)
     section = re.search(r"^## Refusals\n(.*?)^## ", (ROOT / "docs" / "RULES.md").read_text(), re.M | re.S)[1]
-    if re.findall(r"^\| (\d+) \| ([^|]*) \| [^|]+ \|$", section, re.M) != told:
+    if re.findall(r"^\| (\d+) \| ([^|]*) \| [^|]+ \| [^|]+ \|$", section, re.M) != told:
         yield "docs/RULES.md: the refusals are not those of the header"
     version = re.search(r"^#define LEPSAINO_VERSION (\d+)$", HEADER, re.M)[1]
     landings = re.findall(r"^## (\d+)\. ", (ROOT / "docs" / "LANDINGS.md").read_text(), re.M)
@@ -90,12 +95,12 @@ def links():
 
 def main():
     faults = [*tables(), *links(), *commands_in_sentences()]
-    faults += [f"{document}: there is a block that is not run" for document in RUN if not languages(document) <= {"console", "js"}]
+    faults += [f"{document}: there is a block that is not run" for document in RUN if not languages(document) <= {"console", "js"} or has_indented(document)]
     words = len((ROOT / "README.md").read_text().split())
     if words >= MOST_WORDS_OF_README:
         faults.append(f"README.md has {words} words")
     with tempfile.TemporaryDirectory() as place, tempfile.TemporaryDirectory() as page:
-        workplace(place)
+        working_folder(place)
         # A first use may build, and says so.
         subprocess.run([ROOT / "lepsaino"], capture_output=True)
         for document in RUN:

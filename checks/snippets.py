@@ -18,7 +18,7 @@ def languages(document):
     return {name for name, _ in BLOCK.findall((ROOT / document).read_text())}
 
 
-def workplace(folder):
+def working_folder(folder):
     """A folder in which all that the repository has is at hand, and new files are no part of it."""
     for path in ROOT.iterdir():
         if path.name != ".git":

@@ -1,6 +1,6 @@
 /*
  * list FILE RATE UNIT SERIAL prints the listing of a dump, or the refusal's number and place. It shows how C calls the library:
- *     cc -Iinclude examples/list.c target/staticlib/liblepsaino_c.a -o list
+ *     peer/build-library target/native && cc -Iinclude examples/list.c target/native/liblepsaino_c.a -o list
  * Exit status: 0 for a listing, 1 for a refusal, 2 for a usage or file error.
  */
 #include <errno.h>

@@ -1,7 +1,7 @@
 /*
  * pieces [SEED] checks a dump that comes by standard input, 64 bytes at a time, and prints the refusal's number and place; of a sound dump the byte order, the
  * header's fields and the number of events. With a SEED the pieces have 0 to 64 bytes by chance. It shows how C checks a dump that is nowhere held whole:
- *     cc -Iinclude examples/pieces.c target/staticlib/liblepsaino_c.a -o pieces
+ *     peer/build-library target/native && cc -Iinclude examples/pieces.c target/native/liblepsaino_c.a -o pieces
  * Exit status: 0 for a sound dump, 1 for a refusal, 2 for a usage, input or output error.
  */
 #include <errno.h>

@@ -1,6 +1,6 @@
 /*
  * record formats a buffer, registers a thread, records four events in a ring of three slots, and prints the listing: the last three. It shows how C writes a trace:
- *     cc -Iinclude examples/record.c target/staticlib/liblepsaino_c.a -o record
+ *     peer/build-library target/native && cc -Iinclude examples/record.c target/native/liblepsaino_c.a -o record
  * Exit status: 0 for a listing, 1 for a refusal, 2 for an output error.
  */
 #include <inttypes.h>
