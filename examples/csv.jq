@@ -1,4 +1,4 @@
-# jq -rnf examples/csv.jq < LISTING: a listing as CSV for a spreadsheet, which keeps 15 digits of a number and runs a text that begins with =, +, - or @.
+# jq -rnf examples/csv.jq < LISTING: a listing as CSV for a spreadsheet, which keeps 15 digits of a number and may run a text that begins with =, +, - or @.
 # So an apostrophe stands before every key and every name, and before microseconds of more than 15 digits: such a cell is text.
 
 def text: "\u0027" + tostring;
