@@ -6,13 +6,14 @@
 """
 import check_cases
 import mender_cases
+import name_cases
 import piece_cases
 import reader_cases
 import writer_cases
 from made import keep
 
 KINDS = {"check": check_cases.cases, "pieces": piece_cases.cases, "reader": reader_cases.cases, "writer": writer_cases.cases,
-         "mender": mender_cases.cases}
+         "mender": mender_cases.cases, "names": name_cases.cases}
 
 files = {f"data/{kind}": bytes(cases.data) for kind, cases in KINDS.items()}
 files["stdout"] = "".join(line for cases in KINDS.values() for line in cases.printed).encode()

@@ -1,16 +1,36 @@
 """The form in which the programs of cases are given calls on buffers, and in which they print the replies.
 
-A case is a title, a buffer and calls, made in turn on that buffer. The program prints the title and the
-buffer's digest, then the reply to each call.
+A case is a title, a buffer, a name file and calls, made in turn on these. The program prints the title and
+both digests, then the reply to each call.
 """
 import struct
 from functools import lru_cache
 
-from texts import CONTEXTS, name
+from texts import CONTEXTS, NO_MEMBER, name
 
 # What the programs have room for; the room of a call that writes is by its letter.
 MOST_BYTES, MOST_ARGUMENTS, MOST_IN_HEX, MOST_CALLS = 65537, 1024, 1024, 1000
-MOST_ROOM = {"l": 1599000, "a": 1599000, "m": 65900}
+MOST_ROOM = {"l": 1599000, "a": 1599000, "L": 1599000, "A": 1599000, "m": 65900}
+
+
+def ending(content):
+    """The byte that some bytes end in, and all before that byte's last run."""
+    last = content[-1:] or b"\0"
+    return last, content.rstrip(last)
+
+
+def start(buffer):
+    """A buffer by its length, the byte that it ends in, and all before that byte's last run."""
+    last, given = ending(buffer)
+    return struct.pack("<IcI", len(buffer), last, len(given)) + given
+
+
+def record(thread, number, offset, called):
+    """What is given to write a record; its name as a buffer is given, but for how many bytes come, which the arguments' length tells."""
+    assert len(called) <= MOST_BYTES
+    last, given = ending(called)
+    return struct.pack("<BIQIc", thread, number, offset, len(called), last) + given
+
 
 # A call's arguments as the programs read them, by the call's letter.
 ARGUMENTS = {
@@ -26,7 +46,10 @@ ARGUMENTS = {
     "x": lambda pointer: struct.pack("<I", pointer),
     "m": lambda room: struct.pack("<I", room),
     "b": lambda: b"",
+    "r": record,
 }
+# The calls with the case's name file take the same.
+ARGUMENTS.update({letter.upper(): ARGUMENTS[letter] for letter in "enla"})
 
 
 @lru_cache(maxsize=64)
@@ -40,17 +63,18 @@ def digest(content):
 
 def called(found):
     """A name's text and its kind, or that there is none."""
-    return name(None) if found is None else f"{name(found.bytes)} {'gone' if found.gone else 'live'}"
+    return name(None) if found is None else f"{name(found.bytes)} {found.kind}"
 
 
 def found_name(found):
-    """The reply to finding a name: with its length, and its place in the dump where there is one."""
+    """The reply to finding a name: with its length, and its place in the dump or the name file where there is one."""
     return f"{called(found)} 0" if found is None else f"{called(found)} {len(found.bytes)} {found.place}"
 
 
 def shown_event(event):
-    """The reply to asking for one event by its position."""
-    return " ".join([*map(str, event.words), str(event.ticks), CONTEXTS[event.by], called(event.name)])
+    """The reply to asking for one event by its position; with a name file also its own name."""
+    own = [] if event.own is NO_MEMBER else [called(event.own)]
+    return " ".join([*map(str, event.words), str(event.ticks), CONTEXTS[event.by], called(event.name), *own])
 
 
 def written(text):
@@ -61,13 +85,6 @@ def written(text):
 def mended(copy, counts, checked):
     """The reply to a call that wrote a copy and changed nothing past it: six counts, and what the check says of it."""
     return f"{len(copy)} {' '.join(map(str, counts))} 0 {digest(copy)}\n{checked}"
-
-
-def start(buffer):
-    """A buffer by its length, the byte that it ends in, and all before that byte's last run."""
-    last = buffer[-1:] or b"\0"
-    given = buffer.rstrip(last)
-    return struct.pack("<IcI", len(buffer), last, len(given)) + given
 
 
 def packed(letter, given):
@@ -82,12 +99,12 @@ class Cases:
     def __init__(self):
         self.data, self.printed, self.count = bytearray(), [], 0
 
-    def add(self, title, buffer, calls):
+    def add(self, title, buffer, calls, names=b""):
         """Puts in a case. A call is its letter, what is given, and the reply without its last line's end."""
-        assert 0 < len(title) < 200 and len(buffer) <= MOST_BYTES and len(calls) <= MOST_CALLS
+        assert 0 < len(title) < 200 and max(len(buffer), len(names)) <= MOST_BYTES and len(calls) <= MOST_CALLS
         self.count += 1
-        self.data += struct.pack("B", len(title)) + title.encode() + start(buffer)
-        self.printed.append(f"{title}: {digest(buffer)}\n")
+        self.data += struct.pack("B", len(title)) + title.encode() + start(buffer) + start(names)
+        self.printed.append(f"{title}: {digest(buffer)} {digest(names)}\n")
         for letter, given, reply in calls:
             self.data += packed(letter, given)
             self.printed.append(f"{reply}\n")

@@ -11,7 +11,7 @@ give the case's own values.
 import struct
 
 from made import Chance, keep
-from texts import DOCUMENT, LIMIT, line, name, number, read_back
+from texts import DOCUMENT, DOCUMENT_WITH_NAMES, LIMIT, NO_MEMBER, line, name, number, read_back
 
 MOST, WORD = (1 << 64) - 1, (1 << 32) - 1
 
@@ -46,19 +46,49 @@ for _ in range(200):
     LINES.append((chance.bits(64), chance.bits(63), chance.bits(64), chance.bits(32), chance.bits(32), chance.below(3),
                   chance.bits(32), tuple(chance.bits(32) for _ in range(4)), called, chance.below(2) == 1))
 
+WITH_NAMES = [(*case[:8], called, False, event) for case, called, event in zip(WHOLE_CASE, (b"pump", b"pump", b"valve"), (b"start", None, None))]
+LINES += WITH_NAMES
+# Every byte as an event's name.
+LINES += [PLAIN + (b"pump", False, bytes([b])) for b in range(256)]
+# Zeros are part of a name from a name file; a thread's may be as long as an event's.
+NAMES = (b"", None, bytes(range(256)), b"\xff" * 256, b'A"\n', b"\\" * 3, b"\0", b"a\0b\0", b"null")
+LINES += [PLAIN + (called, False, event) for called in NAMES for event in NAMES]
+LINES += [PLAIN + (b"pump", True, event) for event in NAMES]
+LINES += [(MOST, MOST, MOST, WORD, WORD, by, WORD, (WORD,) * 4, called, gone, event)
+          for event in (b"\xff" * 64, None) for called in (b"\xff" * 64, None) for gone in (False, True) for by in range(3)]
+LINES += [(n, n, n, n % (WORD + 1), 1, by, 0, (0, 1, 2, 3), b"pump", False, b"start") for by in range(3) for n in (0, LIMIT - 1, LIMIT, MOST)]
+for _ in range(200):
+    called, event = (None if chance.below(4) == 0 else chance.bytes(chance.below(chance.one(9, 65, 257))) for _ in range(2))
+    LINES.append((chance.bits(64), chance.bits(63), chance.bits(64), chance.bits(32), chance.bits(32), chance.below(3),
+                  chance.bits(32), tuple(chance.bits(32) for _ in range(4)), called, chance.below(2) == 1, event))
+
+
+def given(called):
+    """A name by its length and its bytes; of none both are nothing."""
+    own = called if isinstance(called, bytes) else b""
+    return struct.pack("<H", len(own)) + own
+
+
+def fields(key, ticks, us, id, ptr, by, field, info, called, gone, event=NO_MEMBER):
+    """A line's fields as the program reads them."""
+    numbers = struct.pack("<QQQIIBIIIII", key, ticks, us, id, ptr, by, field, *info)
+    # No such member, null, or a name.
+    member = 0 if event is NO_MEMBER else 1 if event is None else 2
+    return numbers + bytes([member]) + given(event) + bytes([called is not None, gone]) + given(called)
+
+
 data, out = bytearray(), []
 for n in NUMBERS:
     data += b"n" + struct.pack("<Q", n)
     out.append(f"{number(n)} {len(number(n))} {min(int(float(n)), MOST)}\n")
 for case in LINES:
-    key, ticks, us, id, ptr, by, field, info, called, gone = case
-    bytes_of = called or b""
-    data += b"l" + struct.pack("<QQQIIBIIIIIBBH", key, ticks, us, id, ptr, by, field, *info, called is not None, gone, len(bytes_of)) + bytes_of
+    data += b"l" + fields(*case)
     text = line(*case)
     read_back(text, *case)
     out.append(f"{text}{len(text)} 0 0 {len(text)} 0 0\n")
 
 assert "".join(line(*case) for case in WHOLE_CASE) == DOCUMENT
+assert "".join(line(*case) for case in WITH_NAMES) == DOCUMENT_WITH_NAMES
 assert name(b'A"\n') == '"A\\"\\u000a"'
 assert number(9007199254 * 1000000) == "9007199254000000" and number(9007199255 * 1000000) == '"9007199255000000"'
 

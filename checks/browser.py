@@ -10,8 +10,8 @@ import tempfile
 
 sys.dont_write_bytecode = True
 
-from page_in_browser import (BREAK, CHOICE, COUNTS, CUT, DUMPS, ENTER, FETCH, GIVEN, HOLD, INDICES, LAST, LINES, NOTHING, RESOURCES, ROOT, SAMPLE,
-                             SPACE, TALL, WIDTH, CUT_OFF, Page, cells, example, refusal)
+from page_in_browser import (BREAK, CHOICE, COUNTS, CUT, DUMPS, ENTER, FETCH, FILES, GIVEN, HOLD, INDICES, LAST, LINES, NAME_FILES, NOTHING, RESOURCES,
+                             ROOT, SAMPLE, SPACE, TALL, WIDTH, CUT_OFF, Page, cells, example, refusal)
 from mender import mend
 from reader import listing
 from webdriver import Differs, NotStarted, Server, same, started, until
@@ -114,12 +114,101 @@ def drops(page):
     page.shows("Give one file at a time.", parts=[], **NOTHING)
 
 
+def lines_with(names, dump=SAMPLE):
+    """The listing with a name file."""
+    return listing(dump, GIVEN, 1500000, NAME_FILES[names])
+
+
+def names_events(page):
+    """With a name file each event has its own name, which a search finds and the listing has; without one all is as before."""
+    page.list()
+    page.shows(heads=HEADS, forget=False)
+    page.name("build.names")
+    lines, about = lines_with("build.names"), "This is about the file pump.dump, with names from the file build.names."
+    page.shows("3 events, each under a key of its own.", about=about, heads=ALL_HEADS, rows=cells(lines), links=["save-listing"], forget=True)
+    same("the cells that do not stand on one line", page.browser.script(TALL), [])
+    page.saves("save-listing", "pump.dump.jsonl", lines.encode())
+    for text, kept in (("start", [0]), ("VALV", [2]), ("pump", [0, 1])):
+        page.search("name", text)
+        page.shows(found=f"{len(kept)} of 3 events", kept=3, rows=[cells(lines)[index] for index in kept])
+    page.give(wanted="")
+    for names in ("empty.names", "odd.names", "other.names"):
+        page.name(names)
+        page.shows("3 events", rows=cells(lines_with(names)), heads=ALL_HEADS)
+    # The names are those of the build: they stay with another dump, and with its copy.
+    page.refuse("cut.dump", CUT_SHORT)
+    page.mend()
+    copy = mend(CUT, len(SAMPLE))[0]
+    page.shows(about="This is about a mended copy of the file cut.dump, with names from the file other.names.", rows=cells(lines_with("other.names", copy)))
+    page.choose("pump.dump")
+    page.shows(rows=cells(lines_with("other.names")))
+    page.browser.click("#forget")
+    page.shows("3 events", about="This is about the file pump.dump.", heads=HEADS, rows=cells(LINES), forget=False)
+    same("where the focus is then", page.stops(0), ["names"])
+
+
+def refuses_names(page):
+    """What is wrong with a name file is told in words, also before all is typed, with nothing left of what was shown before."""
+    page.list()
+    for names, said in (("cut.names", refusal(27, 13)), ("long.names", refusal(2))):
+        page.name(names)
+        page.shows(f"The name file is refused. {said}", parts=[], forget=True, **NOTHING)
+        page.give(rate="")
+        page.shows(f"The name file is refused. {said}", parts=[], invalid=[], **NOTHING)
+        page.name("build.names")
+        page.shows("3 events, and every check passes. To list them: give the clock rate, in digits.", parts=[], **NOTHING)
+        page.give(rate="3000000")
+        page.shows(parts=["events"], rows=cells(lines_with("build.names")))
+    page.give(rate="0")
+    page.name("cut.names")
+    page.shows(refusal(14), parts=[], **NOTHING)
+    page.refuse("cut.dump", CUT_SHORT)
+    page.list("full.dump", listing(DUMPS["full.dump"], GIVEN, 1500000))
+    page.name("large.names")
+    page.shows(f"With these names the listing is longer than this page has room for. {refusal(16)}", parts=[], **NOTHING)
+    page.browser.click("#forget")
+    page.shows("2,046 events", parts=["events"], kept=2046, forget=False)
+
+
+def takes_names(page):
+    """A name file is dropped on its field, and anything else of the page takes a dump; the last one given is shown, and what fails is told."""
+    page.list()
+    page.drop("build.names", place="#names")
+    page.shows(rows=cells(lines_with("build.names")))
+    page.drop("pump.dump")
+    page.shows(about="This is about the file pump.dump, with names from the file build.names.", rows=cells(lines_with("build.names")))
+    page.drop("build.names", "empty.names", place="#names")
+    page.shows("Give one name file at a time.", parts=[], about="", forget=True, **NOTHING)
+    page.name("build.names")
+    page.shows(rows=cells(lines_with("build.names")))
+    same("an emptied field, and its file once no other is chosen", page.browser.script(CHOICE, "names"), [0, "build.names"])
+    page.browser.script(HOLD)
+    page.drop("cut.names", place="#names")
+    page.shows("Reading the name file.", parts=[], about="", **NOTHING)
+    page.drop("other.names", place="#names")
+    page.shows(rows=cells(lines_with("other.names")))
+    page.browser.script("window.come();")
+    page.give(wanted="")
+    page.shows("3 events", rows=cells(lines_with("other.names")))
+    page.browser.script(HOLD)
+    page.name("build.names")
+    page.browser.script("window.fail();")
+    page.shows("The name file could not be read.", parts=[], about="", forget=True, **NOTHING)
+    page.browser.click("#forget")
+    page.shows("3 events", parts=["events"], rows=cells(LINES))
+
+
 def shows_odd_names(page):
     """A long name goes on in the next line, and a file's name is kept apart from what is said."""
     dump = DUMPS["long-name.dump"]
     page.list("long-name.dump", listing(dump, GIVEN, 9999))
-    wide, room = page.browser.script(WIDTH)
-    same("whether a long name leaves the table within its room", wide <= room, True)
+    for names in (None, "wide.names"):
+        if names is not None:
+            page.name(names)
+            page.shows(rows=cells(lines_with(names, dump)))
+        wide, room = page.browser.script(WIDTH)
+        same(f"whether a long name leaves the table within its room with the name file {names}", wide <= room, True)
+    page.browser.click("#forget")
     page.refuse("turned\u202e.dump", CUT_SHORT)
     page.shows(answer=CUT_SHORT)
     same("what keeps a file's name apart", page.browser.script("return document.querySelector('#about .file').localName;"), "bdi")
@@ -146,7 +235,7 @@ def leaves_nothing_stale(page):
     page.shows(invalid=["unit"])
     page.give(unit="8192")
     page.shows(CUT_SHORT, invalid=[])
-    same("an emptied field, and its file once no other is chosen", page.browser.script(CHOICE), [0, "cut.dump"])
+    same("an emptied field, and its file once no other is chosen", page.browser.script(CHOICE, "file"), [0, "cut.dump"])
     page.browser.script(HOLD)
     page.drop("cut.dump")
     page.give(serial="0")
@@ -189,12 +278,14 @@ def shows_what_is_fetched(browser, folder):
     served = folder / "example"
     shutil.copytree(folder / "page", served)
     shutil.copy(ROOT / "page" / "example.html", served)
-    for name, text in (("pump.jsonl", LINES), ("lost.jsonl", LINES[:LINES.index("\n") + 1]), ("none.jsonl", ""), ("refused.jsonl", "11 3\n")):
+    named = lines_with("build.names")
+    for name, text in (("pump.jsonl", LINES), ("named.jsonl", named), ("lost.jsonl", LINES[:LINES.index("\n") + 1]), ("none.jsonl", ""), ("refused.jsonl", "11 3\n")):
         (served / name).write_text(text)
     with Server(served) as server:
         elsewhere = f"{server.address.replace('127.0.0.1', 'localhost')}pump.jsonl"
         for listing, events, said, rows in (
-            ("pump.jsonl", 3, "Events, each under its own key: 3.", cells(LINES)), ("none.jsonl", 0, "Events, each under its own key: 0.", []),
+            ("pump.jsonl", 3, "Events, each under its own key: 3.", cells(LINES)), ("named.jsonl", 3, "Events, each under its own key: 3.", cells(named)),
+            ("none.jsonl", 0, "Events, each under its own key: 0.", []),
             ("lost.jsonl", 3, "Nothing is shown: line 2, column 1: the number of events is 1: expected 3.", []),
             ("none.jsonl", 3, "Nothing is shown: line 1, column 1: the number of events is 0: expected 3.", []),
             ("refused.jsonl", 3, "The dump was refused: 11 3: entry 3 is in use with a type that is not allowed.", []),
@@ -232,32 +323,45 @@ def shows_all(page):
 
 def works_by_keys(page):
     """The tab key stops at each control and nowhere else, buttons are pressed by keys, and the focus is never lost."""
-    fields, events = ["file", "rate", "unit", "serial"], ["save-listing", "by", "wanted", "scroll"]
+    fields, events = ["file", "names", "rate", "unit", "serial"], ["save-listing", "by", "wanted", "scroll"]
     page.list()
-    same("the stops of a listing", page.stops(9), ["body", *fields, *events, "body"])
+    same("the stops of a listing", page.stops(10), ["body", *fields, *events, "body"])
+    page.name("build.names")
+    page.shows(rows=cells(lines_with("build.names")))
+    same("the stops up to a name file", page.stops(3), ["body", "file", "names", "forget"])
+    page.browser.press(ENTER)
+    page.shows(rows=cells(LINES))
+    same("where the focus is without names", page.stops(0), ["names"])
     for key in (ENTER, SPACE):
         page.list()
         page.refuse("cut.dump", CUT_SHORT)
-        same("the stops of a refused dump", page.stops(5), ["body", *fields, "mend"])
+        same("the stops of a refused dump", page.stops(6), ["body", *fields, "mend"])
         page.browser.press(key)
         page.shows(parts=["mended", "events"])
         same("the stops after mending", page.stops(5), ["save-copy", "discard", *events])
     page.open("short.dump")
     page.shows(refusal(1), parts=["mend"])
-    page.stops(5)
+    page.stops(6)
     page.browser.press(ENTER)
     page.shows("It cannot be mended.")
     same("whether the focus is lost where nothing can be mended", page.stops(0) == ["body"], False)
 
 
-HEADS = ["Key", "Ticks", "Microseconds", "Event id", "By", "Name", "Pointer", "Field", "Information"]
+ALL_HEADS = ["Key", "Ticks", "Microseconds", "Event id", "Event name", "By", "Name", "Pointer", "Field", "Information"]
+HEADS = [head for head in ALL_HEADS if head != "Event name"]
+
+
+def heads_heard(heads):
+    return {f"thead th:nth-child({ALL_HEADS.index(head) + 1})": ("columnheader", head) for head in heads}
+
+
 # By selector, the role and how the label begins.
 HEARD = {
-    "#file": ("button", "Dump"), "#rate": ("textbox", "Clock rate in Hz"), "#unit": ("textbox", "Unit number"), "#serial": ("textbox", "First serial"),
+    "#file": ("button", "Dump"), "#names": ("button", "Names from the build (optional)"), "#rate": ("textbox", "Clock rate in Hz"), "#unit": ("textbox", "Unit number"), "#serial": ("textbox", "First serial"),
     "#answer": ("status", ""), "#save-listing": ("link", "Save the listing as JSON lines"), "#search": ("search", ""), "#by": ("combobox", "Search by"),
     "#wanted": ("searchbox", "Search for"), "#found": ("status", ""), "#scroll": ("region", "Table of events"), "#table": ("table", "Events of pump.dump"),
     "#events": ("region", "Events of pump.dump"),
-    **{f"thead th:nth-child({place})": ("columnheader", head) for place, head in enumerate(HEADS, 1)},
+    **heads_heard(HEADS),
     **{f"tbody tr:nth-child({place}) :first-child": ("rowheader", row[0]) for place, row in enumerate(cells(LINES), 1)},
 }
 HEARD_OF_A_COPY = {"#mended": ("region", "Mended copy"), "#save-copy": ("link", "Save the mended copy"), "#discard": ("button", "Back to the dump")}
@@ -277,6 +381,10 @@ def is_heard(page):
     must_hear({"#mend": ("button", "Mend a copy")})
     page.mend()
     must_hear(HEARD_OF_A_COPY)
+    page.list()
+    page.name("build.names")
+    page.shows(heads=ALL_HEADS)
+    must_hear({**heads_heard(ALL_HEADS), "#forget": ("button", "List without names")})
 
 
 def sends_nothing(page):
@@ -295,8 +403,8 @@ def sends_nothing(page):
     page.browser.log()
 
 
-TESTS = [lists, says_what_is_missing, searches, refuses, mends, saves, drops, leaves_nothing_stale, tells_names_apart, shows_odd_names, prints_all,
-         shows_all, works_by_keys, is_heard, sends_nothing]
+TESTS = [lists, says_what_is_missing, searches, refuses, mends, saves, drops, leaves_nothing_stale, tells_names_apart, names_events, refuses_names,
+         takes_names, shows_odd_names, prints_all, shows_all, works_by_keys, is_heard, sends_nothing]
 
 
 def tested(page):
@@ -318,6 +426,8 @@ def draw(page, path):
     for command, given in (("setDeviceMetricsOverride", size), ("setEmulatedMedia", light)):
         page.browser.post("/goog/cdp/execute", cmd=f"Emulation.{command}", params=given)
     page.list("device.dump", listing(DUMPS["device.dump"], GIVEN, 9999))
+    page.name("device.names")
+    page.shows(rows=cells(lines_with("device.names", DUMPS["device.dump"])))
     path.write_bytes(page.browser.picture())
 
 
@@ -325,8 +435,8 @@ def run(folder, picture):
     """What is said where all is well."""
     for inner in ("dumps", "downloads"):
         (folder / inner).mkdir()
-    for dump, content in DUMPS.items():
-        (folder / "dumps" / dump).write_bytes(content)
+    for name, content in FILES.items():
+        (folder / "dumps" / name).write_bytes(content)
     same("the status of page/build", subprocess.run([ROOT / "page" / "build", folder / "page"]).returncode, 0)
     with Server(folder / "page") as server, started(folder) as browser:
         pages = [Page(browser, folder, server, is_served) for is_served in (True, False)]

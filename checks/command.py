@@ -33,9 +33,9 @@ EMPTY = PUMP[:32] + PUMP[24:28] + PUMP[36:72] + bytes(96)
 FULL = Dump(entries=0, slots=2046).use(*range(2046)).bytes("<")
 FULL_LINES = listing(FULL, Reading(3000000, 8192, 0), 1500000).encode()
 CUT = (ROOT / "crates/lepsaino/data/cut.dump").read_bytes()
-USAGE = b"usage: lepsaino FILE RATE UNIT SERIAL, or lepsaino mend FILE COPY; lepsaino --help says more\n"
+USAGE = b"usage: lepsaino FILE RATE UNIT SERIAL [NAMES], or lepsaino mend FILE COPY; lepsaino --help says more\n"
 MEND_USAGE = b"usage: lepsaino mend FILE COPY; lepsaino --help says more\n"
-HELP = b"usage: lepsaino FILE RATE UNIT SERIAL\n       lepsaino mend FILE COPY\n       lepsaino --help | --version\n"
+HELP = b"usage: lepsaino FILE RATE UNIT SERIAL [NAMES]\n       lepsaino mend FILE COPY\n       lepsaino --help | --version\n"
 HEADER = (ROOT / "include/lepsaino.h").read_text()
 WORDS = dict(re.findall(r"^ \* {1,2}(\d+)  (.*)$", HEADER, re.M))
 GOOD = ("3000000", "8192", "0")
@@ -127,7 +127,7 @@ CASES = [
     (PUMP, ("-1", "8192", "0"), b"", wrong("RATE"), 2),
     (PUMP, ("1", "0x10", "0"), b"", wrong("UNIT"), 2),
     (PUMP, ("1", "8192"), b"", USAGE, 2),
-    (PUMP, ("1", "8192", "0", "0"), b"", USAGE, 2),
+    (PUMP, ("1", "8192", "0", "names", "more"), b"", USAGE, 2),
 ]
 
 
@@ -145,6 +145,103 @@ def plain(folder):
         check(repr(name), one_line and said in (None, done.stderr), done)
 
 
+def record(kind, number, name=b""):
+    """A record of a name file: kind 1 names an event, 2 a thread."""
+    return struct.pack("<HHI", 4 + len(name), kind, number) + name
+
+
+def with_null(lines):
+    """The lines with a name file that names none of their events."""
+    return re.sub(rb'"id":\d+', rb'\g<0>,"event":null', lines)
+
+
+def named(dump, names):
+    """The listing with a name file, by the reader that is written from the rules."""
+    return listing(dump, Reading(3000000, 8192, 0), 10 ** 9, names).encode()
+
+
+NAMES = record(1, 5, b"start") + record(2, 0x20002000, b"valve")
+NAMED_LINES = b"""\
+{"key":"9007199254740992","ticks":0,"us":0,"id":5,"event":"start","ptr":536875008,"by":"thread","name":"pump","gone":false,"field":16,"info":[1,2,3,4]}
+{"key":"9007199254740993","ticks":56,"us":18,"id":1025,"event":null,"ptr":4294967295,"by":"isr","name":"pump","gone":false,"field":536875008,"info":[0,0,0,0]}
+{"key":"9007199254740994","ticks":56,"us":18,"id":6,"event":null,"ptr":536879104,"by":"thread","name":"valve","gone":false,"field":16,"info":[7,0,0,0]}
+"""
+OTHERS = struct.pack("<HH", 0, 0) + struct.pack("<HH", 3, 3) + b"abc" + struct.pack("<HH", 5, 65535) + b"12345"
+# A longer name for each event of the full dump makes its listing longer by 2,046 bytes; the first of these still fits in the program's room.
+FITTING = (1583604 - len(FULL_LINES)) // 2046 - len(',"event":""')
+LONG_NAMES = record(1, 5, b"x" * (FITTING + 1))
+LONG_LINES = named(FULL, LONG_NAMES)
+# These make a listing of more than one of the parts in which the script keeps it.
+LONGER_NAMES = record(1, 5, b"\xff" * 300) + record(2, 0x20001000, b'"' * 300)
+NAMED = [
+    # the dump, the name file, the arguments between them, standard output, the exit status
+    (PUMP, NAMES, GOOD, NAMED_LINES, 0),
+    (PUMP, b"", GOOD, with_null(LINES), 0),
+    (EMPTY, NAMES, GOOD, b"", 0),
+    (PUMP, OTHERS + NAMES + OTHERS, GOOD, NAMED_LINES, 0),
+    (PUMP, NAMES + record(1, 5, b"later") + record(2, 0x20002000, b"later"), GOOD, NAMED_LINES, 0),
+    (PUMP, record(2, 5, b"start") + record(1, 0x20002000, b"valve"), GOOD, with_null(LINES), 0),
+    (PUMP, record(2, 0x20001000, b"file's"), GOOD, with_null(LINES), 0),
+    (REMOVED, record(2, 0x20001000, b"file's"), GOOD, with_null(REMOVED_LINES), 0),
+    (PUMP, record(1, 5), GOOD, with_null(LINES).replace(b'"event":null', b'"event":""', 1), 0),
+    (THREADS, record(2, 0x20001200, b"a\0\xff"), ("1000000", "0", "0"), with_null(THREADS_LINES).replace(b'"name":null', b'"name":"a\\u0000\\u00ff"', 1), 0),
+    (PUMP, bytes(65536), GOOD, with_null(LINES), 0),
+    (PUMP, record(1, 5, b"\xff" * 65528), GOOD, with_null(LINES).replace(b"null", b'"' + b"\\u00ff" * 65528 + b'"', 1), 0),
+    (FULL, record(1, 5, b"x" * FITTING), GOOD, named(FULL, record(1, 5, b"x" * FITTING)), 0),
+    (FULL, LONG_NAMES, GOOD, LONG_LINES, 0),
+    (FULL, LONGER_NAMES, GOOD, named(FULL, LONGER_NAMES), 0),
+    (PUMP, bytes(65537), GOOD, b"2 0\n", 1),
+    (PUMP, b"\4" + bytes(99999), GOOD, b"2 0\n", 1),
+    (PUMP, b"\4", GOOD, b"27 0\n", 1),
+    (PUMP, NAMES[:-1], GOOD, b"27 13\n", 1),
+    (PUMP, NAMES + b"\0\0\3", GOOD, b"27 26\n", 1),
+    (PUMP, NAMES + struct.pack("<HH", 3, 1) + b"abc", GOOD, b"27 26\n", 1),
+    (PUMP, NAMES + struct.pack("<HH", 3, 2) + b"abc" + b"\4", GOOD, b"27 26\n", 1),
+    (EMPTY, b"\4", GOOD, b"27 0\n", 1),
+    (PUMP[:47], b"\4", GOOD, b"1 0\n", 1),
+    (PUMP, b"\4", ("0", "8192", "0"), b"14 0\n", 1),
+    (PUMP, b"\4", ("1", str(HALF), "0"), b"15 0\n", 1),
+]
+
+
+def names_events(folder):
+    """Listings and refusals with a name file, and those without one as ever."""
+    check("a listing longer than the program's room", len(LONG_LINES) - 2046 <= 1583604 < len(LONG_LINES), len(LONG_LINES))
+    check("a listing of several parts", len(named(FULL, LONGER_NAMES)) > 4000000, len(named(FULL, LONGER_NAMES)))
+    for dump, names, arguments, out, status in NAMED:
+        here = place(folder, dump=dump, **{"the names": names})
+        done = run(here, "dump", *arguments, "the names")
+        right = (done.stdout, done.stderr, done.returncode) == (out, error_of(out, status), status)
+        check(f"{len(dump)} bytes, {arguments}, {len(names)} bytes of names", right, (out[:999], done.stdout[:999], done.stderr, done.returncode))
+    here = place(folder, bad=NAMES + b"\4", dump=PUMP)
+    said = b"lepsaino: 27: the record at offset 26 of the name file runs past its end, or names an event or a thread and is shorter than 4 bytes\n"
+    check("27 26", run(here, "dump", *GOOD, "bad").stderr == said, said)
+
+
+def names_by_standard_input(folder):
+    """One of the two may be a dash, not both; a name file that cannot be read is an error."""
+    def must_give(what, done, out=NAMED_LINES, error=b"", status=0):
+        check(what, (done.stdout, done.stderr, done.returncode) == (out, error, status), done)
+
+    here = place(folder, dump=PUMP, names=NAMES, **{"-": NAMES, "mend": NAMES})
+    must_give("names by a pipe", run(here, "dump", *GOOD, "-", input=NAMES))
+    must_give("no names by a pipe", run(here, "dump", *GOOD, "-", input=b""), with_null(LINES))
+    must_give("long names by a pipe", run(here, "dump", *GOOD, "-", input=bytes(999999)), b"2 0\n", in_words(b"2 0"), 1)
+    must_give("a dump by a pipe, with names", run(here, "-", *GOOD, "names", input=PUMP))
+    for name in ("./-", "mend"):
+        must_give(f"names in {name}", run(here, "dump", *GOOD, name))
+    must_give("both by a dash", run(here, "-", *GOOD, "-", input=PUMP), b"", b"FILE and NAMES cannot both be a dash\n", 2)
+    done = run(here, "dump", *GOOD, "-", preexec_fn=lambda: os.close(0))
+    must_give("names by a closed input", done, b"", b"standard input: Bad file descriptor\n", 2)
+    must_give("names that are not there", run(here, "dump", *GOOD, "none"), b"", b"none: No such file or directory\n", 2)
+    must_give("a folder of names", run(here, "dump", *GOOD, "."), b"", b".: Is a directory\n", 2)
+    for name in ("", "n" * 4097):
+        must_give(f"names in {name[:9]!r}", run(here, "dump", *GOOD, name), b"", b"NAMES's name is empty, or longer than 4096 bytes\n", 2)
+    (here / "names").chmod(0)
+    if subprocess.run(["test", "-r", here / "names"], preexec_fn=blind).returncode:
+        must_give("names that may not be read", run(here, "dump", *GOOD, "names", preexec_fn=blind), b"", b"names: Permission denied\n", 2)
+
+
 def says_refusals(folder):
     """What the place counts is said in words; 11 3 is the example of README.md."""
     dump = Dump(entries=5, slots=1)
@@ -154,7 +251,7 @@ def says_refusals(folder):
     done = run(here, "bad", *GOOD)
     said = b"lepsaino: 11: entry 3 is in use with a type that is not allowed\n"
     check("11 3", (done.stdout, done.stderr, done.returncode) == (b"11 3\n", said, 1), done)
-    check("words for every number", sorted(map(int, WORDS)) == list(range(1, len(WORDS) + 1)) and len(WORDS) >= 26, WORDS)
+    check("words for every number", sorted(map(int, WORDS)) == list(range(1, len(WORDS) + 1)) and len(WORDS) >= 28, WORDS)
 
 
 def by_standard_input(folder):
@@ -187,6 +284,7 @@ def by_standard_input(folder):
 PRINTED = [
     ("a listing", ("pump", *GOOD), LINES, 0),
     ("a long listing", ("full", *GOOD), FULL_LINES, 0),
+    ("a longer listing", ("full", *GOOD, "names"), LONG_LINES, 0),
     ("a refusal", ("short", *GOOD), b"1 0\n", 1),
     ("the help", ("--help",), None, 0),
 ]
@@ -323,6 +421,12 @@ def bound():
     ctypes.CDLL(None).prctl(24, 1, 0, 0, 0)
 
 
+def blind():
+    """The same for reading, which CAP_DAC_READ_SEARCH allows root too."""
+    bound()
+    ctypes.CDLL(None).prctl(24, 2, 0, 0, 0)
+
+
 def mends_over(folder):
     """What is replaced keeps its permission bits, a new file has those of the umask; a link stays."""
     here = place(folder, dump=ALL)
@@ -363,7 +467,7 @@ def mends_by_name(folder):
 def must_leave(what, here, done, error=None, out=b"", status=2):
     """An error with one line, or a refusal, which has one line, too; `here` is a folder and what was in it."""
     right = (done.stdout or b"", done.returncode, done.stderr.count(b"\n")) == (out, status, 1)
-    error = in_words(out) if status == 1 else error
+    error = in_words(out) if error is None and status == 1 else error
     check(what, right and error in (None, done.stderr), done)
     check(f"{what}, what is left", state(here[0]) == here[1], state(here[0]))
 
@@ -444,6 +548,140 @@ def mended_not_printed(folder):
     check("a copy, no reader", (done.stderr, done.returncode, (here / "dump").read_bytes()) == (b"", 0, ALL_COPY), done)
 
 
+MADE = [
+    # a list, its name file by hand
+    (b"", b""),
+    (b"5 start\nthread 0x20002000 valve\n", NAMES),
+    (b"thread 0x20002000 valve\n5 start", record(2, 0x20002000, b"valve") + record(1, 5, b"start")),
+    (b"5 start\r\nthread 536879104 valve\r\n", NAMES),
+    (b"# 5 none\n\n5 start\n\r\n#\nthread 0x20002000 valve\n\n", NAMES),
+    (b"5 \nthread 6 \r\n", record(1, 5) + record(2, 6)),
+    (b"5 a\nthread 5 b\n", record(1, 5, b"a") + record(2, 5, b"b")),
+    (b"1 # a\n2  b \n3 thread 4 c\n", record(1, 1, b"# a") + record(1, 2, b" b ") + record(1, 3, b"thread 4 c")),
+    (b"4294967295 most\n0xfffffffe less\nthread 0 least\n", record(1, HALF, b"most") + record(1, HALF - 1, b"less") + record(2, 0, b"least")),
+    (b"007 a\n0x" + b"0" * 5000 + b"aB b\nthread 0x0 c\n", record(1, 7, b"a") + record(1, 0xAB, b"b") + record(2, 0, b"c")),
+    (b"5 \0\xff\xc3\xa4\t\r\x0b\x0c\x85\r\r\n6 b\n", record(1, 5, b"\0\xff\xc3\xa4\t\r\x0b\x0c\x85\r") + record(1, 6, b"b")),
+    (b"5 " + b"x" * 65528 + b"\n# more\n", record(1, 5, b"x" * 65528)),
+    (b"".join(b"%d \n" % number for number in range(1, 8193)), b"".join(record(1, number) for number in range(1, 8193))),
+]
+BAD_LINE = "neither ID NAME nor thread POINTER NAME"
+NOT_MADE = [
+    # a list, what standard error says of it
+    *((line, f"line 1: {BAD_LINE}") for line in (
+        b"5\n", b"5\r\n", b" 5 a\n", b"five a\n", b"-1 a\n", b"+1 a\n", b"5_0 a\n", b"0x a\n", b"0Xa a\n", b"ab a\n", b"5\ta\n", b" \n", b"a", b"\xef\xbb\xbf5 a\n",
+        "\u0663 a\n".encode(), b"thread\n", b"thread 5\n", b"thread  5 a\n", b"thread a b\n", b"Thread 5 a\n", b"thread\t5 a\n", b"event 5 a\n")),
+    *((line, "line 1: the number is above 4294967295") for line in (b"4294967296 a\n", b"thread 0x100000000 a\n", b"9" * 5000 + b" a\n")),
+    *((line, "line 1: no event has the id 0") for line in (b"0 a\n", b"000 a\n", b"0x0 a\n")),
+    (b"# a\n\n5 a\nb\n6 c\n", f"line 4: {BAD_LINE}"),
+    (b"5 a\n\n6 b\n0x5 a\n", "line 4: the event 5 has a name by line 1 already, and only the first would be read"),
+    (b"7 a\nthread 32 a\nthread 0x20 b\n", "line 3: the thread 0x20 has a name by line 2 already, and only the first would be read"),
+    (b"5 " + b"x" * 65529, "line 1: the name file would have more than 65536 bytes"),
+    (b"#\n6 a\n5 " + b"x" * 65520, "line 3: the name file would have more than 65536 bytes"),
+    (b"".join(b"%d \n" % number for number in range(1, 8194)), "line 8193: the name file would have more than 65536 bytes"),
+]
+
+
+def make_names(folder, *arguments, **options):
+    return run(folder, *arguments, script=ROOT / "make-names", **options)
+
+
+def must_make(what, done, path, others, names=NAMES, mode=None):
+    must_mend(f"{what}, a name file", done, path, others, names, b"", mode)
+
+
+def makes_names(folder):
+    """Name files from lists, by a file and by standard input, compared with those by hand; a list that breaks a rule leaves all as it was."""
+    for text, names in MADE:
+        here = place(folder, list=text, old=b"old")
+        must_make(f"{text[:40]}", make_names(here, "list", "old"), here / "old", ["list"], names)
+        must_make(f"{text[:40]} by a pipe", make_names(here, "-", "new", input=text), here / "new", ["list", "old"], names)
+        check(f"{text[:40]}, listed", run(here, "/dev/stdin", *GOOD, "new", input=PUMP).stdout == named(PUMP, names), names[:40])
+    for text, said in NOT_MADE:
+        here = place(folder, list=text, old=b"old")
+        was = here, state(here)
+        for to in ("old", "new"):
+            must_leave(f"{text[:40]} to {to}", was, make_names(here, "list", to), f"make-names: {said}\n".encode(), status=1)
+
+
+def makes_names_over(folder):
+    """What is replaced keeps its permission bits, a new file has those of the umask; a link stays; the list itself may be replaced."""
+    text = b"5 start\nthread 0x20002000 valve\n"
+    here = place(folder, list=text)
+    must_make("over the list", make_names(here, "list", "list"), here / "list", [])
+    for mode in (0o640, 0o604, 0o700):
+        here = place(folder, list=text, old=b"old")
+        (here / "old").chmod(mode)
+        must_make(f"over {mode:o}", make_names(here, "list", "old"), here / "old", ["list"], mode=mode)
+    for mask in (0o022, 0o027, 0o177):
+        here = place(folder, list=text)
+        must_make(f"umask {mask:o}", make_names(here, "list", "new", umask=mask), here / "new", ["list"], mode=0o666 & ~mask)
+    for name, others in (("old", []), ("new", ["old"])):
+        here, there = place(folder, list=text), place(folder, old=b"old")
+        (here / "link").symlink_to(there / name)
+        must_make(f"by a link to {name}", make_names(here, "list", "link"), there / name, others)
+        check(f"the link to {name}", os.readlink(here / "link") == str(there / name), state(here))
+    for name in ("a name", "-f", "--", "a\nb\n", "*"):
+        here, there = place(folder, **{name: text}), place(folder)
+        must_make(f"{name!r}", make_names(here, name, there / name), there / name, [])
+
+
+def makes_no_names(folder):
+    """Errors in use and on the way from the list to the name file: one line, and all is as it was, with no file more."""
+    here = place(folder, list=b"5 start\n", old=b"old")
+    (here / "sub").mkdir()
+    os.mkfifo(here / "pipe")
+    put_device(here / "device")
+    for name, to in (("piped", "pipe"), ("lost", "none/names"), ("turns", "turns"), ("to device", "device")):
+        (here / name).symlink_to(to)
+    was = here, state(here)
+    for given in ((), ("list",), ("list", "old", "new")):
+        must_leave(f"make-names, {len(given)} arguments", was, make_names(here, *given), b"usage: make-names LIST NAMES; make-names --help says more\n")
+    for name, said in (("none", b"No such file or directory"), (".", b"Is a directory"), ("", None), ("no\nne", None)):
+        must_leave(f"make-names, a list in {name!r}", was, make_names(here, name, "new"), said and b"make-names: LIST cannot be read: " + said + b"\n")
+    done = make_names(here, "-", "new", preexec_fn=lambda: os.close(0))
+    must_leave("make-names, a closed input", was, done, b"make-names: LIST cannot be read: Bad file descriptor\n")
+    for to in ("sub", ".", "sub/", "old/", "new/", "none/names", "lost", "turns", "pipe", "piped", "device", "to device", "/dev/stdout", "/proc/names",
+               "", "n" * 256):
+        must_leave(f"make-names, to {to[:20]!r}", was, make_names(here, "list", to))
+    with open(here / "gone", "wb") as gone:
+        (here / "gone").unlink()
+        done = make_names(here, "list", f"/dev/fd/{gone.fileno()}", pass_fds=[gone.fileno()])
+        must_leave("make-names, to a file that has lost its name", was, done)
+    for to in ("old", "new"):
+        done = make_names(here, "list", to, preexec_fn=limit(2))
+        must_leave(f"make-names, no room for {to}", was, done, b"make-names: NAMES cannot be written: File too large\n")
+    makes_no_protected_names(here)
+
+
+def makes_no_protected_names(here):
+    """A file or a folder that may not be written is left alone."""
+    for protected, to in (("old", "old"), (".", "old"), (".", "new")):
+        mode = (here / protected).stat().st_mode
+        (here / protected).chmod(0o555)
+        was = here, state(here)
+        if subprocess.run(["test", "-w", here / protected], preexec_fn=bound).returncode:
+            must_leave(f"make-names, {protected} protected, to {to}", was, make_names(here, "list", to, preexec_fn=bound))
+        (here / protected).chmod(mode)
+
+
+def make_names_help(folder):
+    """Its use, both arguments, every exit status; the example is run, and so is each form of a line."""
+    here = place(folder)
+    (here / "make-names").symlink_to(ROOT / "make-names")
+    for option in ("--help", "-h"):
+        done = make_names(here, option)
+        lines = done.stdout.decode().splitlines()
+        right = lines[:2] == ["usage: make-names LIST NAMES", "       make-names --help"]
+        right &= all(any(line.startswith(f"  {word}  ") for line in lines) for word in ("LIST ", "NAMES", "ID NAME", "thread POINTER NAME", 0, 1, 2))
+        check(f"make-names {option}", right and (done.stderr, done.returncode) == (b"", 0), done)
+    subprocess.run(["bash", "-c", lines[-1]], cwd=here)
+    check("the example of make-names", (here / "pump.names").read_bytes() == NAMES, state(here))
+    with open("/dev/full", "wb") as out:
+        done = make_names(here, "--help", stdout=out)
+    said = b"make-names: not all could be written to standard output: No space left on device\n"
+    check("make-names --help, /dev/full", (done.stderr, done.returncode) == (said, 2), done)
+
+
 def help_text(folder):
     """All forms of use, every argument and exit status, the first command of the README, and files that are there; nothing is built for it."""
     example = next(line for line in (ROOT / "README.md").read_text().splitlines() if line.startswith("$ ./lepsaino "))[2:]
@@ -452,7 +690,7 @@ def help_text(folder):
         lines = done.stdout.decode().splitlines()
         right = done.stdout.startswith(HELP)
         right &= example.strip() in [line.strip() for line in lines]
-        right &= all(any(line.startswith(f"  {status}  ") for line in lines) for status in (0, 1, 2, "FILE  ", "RATE  ", "UNIT  ", "SERIAL", "COPY  "))
+        right &= all(any(line.startswith(f"  {status}  ") for line in lines) for status in (0, 1, 2, "FILE  ", "RATE  ", "UNIT  ", "SERIAL", "NAMES ", "COPY  "))
         right &= all((ROOT / name).is_file() for name in re.findall(r"docs/\w+\.md", done.stdout.decode())) and b"docs/RULES.md" in done.stdout
         check(option, right and (done.stderr, done.returncode) == (b"", 0), done)
     one = StandIn(folder)
@@ -599,7 +837,7 @@ def builds(folder):
 
 
 def program_fails(folder):
-    """Nothing is printed where the program fails on the way."""
+    """Nothing is printed where the program, or what keeps its text, fails on the way; a shell with job control keeps it too."""
     one = StandIn(folder)
     one.go()
     one.run()
@@ -608,6 +846,13 @@ def program_fails(folder):
         done = one.run()
         right = (done.stdout, done.returncode, done.stderr.count(b"\n")) == (b"", 2, 1)
         check(f"a program that ends by {failing}", right, done)
+    one.put("target/bin/lepsaino", PROGRAM)
+    one.put("kit/bin/head", "#!/bin/sh\nexit 1\n")
+    done = one.run()
+    right = (done.stdout, done.returncode, done.stderr.count(b"\n")) == (b"", 2, 1)
+    check("a text that cannot be kept", right, done)
+    done = run(folder, "full", *GOOD, "names", env=dict(os.environ, SHELLOPTS="monitor"))
+    check("with job control", (done.stdout, done.stderr, done.returncode) == (LONG_LINES, b"", 0), (len(done.stdout), done.stderr, done.returncode))
 
 
 def mend_fails(folder):
@@ -648,10 +893,11 @@ def mend_stopped(folder):
 
 with tempfile.TemporaryDirectory() as folder:
     run(folder, timeout=None)  # builds the program where it is not built yet, and says so
-    for name, dump in (("pump", PUMP), ("full", FULL), ("short", PUMP[:47])):
-        (Path(folder) / name).write_bytes(dump)
-    for part in (plain, says_refusals, by_standard_input, recipes, keeps_cells, not_printed, no_work_room, reader_leaves, mends, mends_over, mends_by_name, mends_nothing, mends_no_other,
-                 mended_not_printed, help_text, builds, program_fails, mend_fails, mend_stopped):
+    for name, content in (("pump", PUMP), ("full", FULL), ("short", PUMP[:47]), ("names", LONG_NAMES)):
+        (Path(folder) / name).write_bytes(content)
+    for part in (plain, names_events, names_by_standard_input, says_refusals, by_standard_input, recipes, keeps_cells, not_printed, no_work_room,
+                 reader_leaves, mends, mends_over, mends_by_name, mends_nothing, mends_no_other, mended_not_printed, makes_names, makes_names_over,
+                 makes_no_names, make_names_help, help_text, builds, program_fails, mend_fails, mend_stopped):
         part(folder)
 print("\n".join(faults), end="\n" if faults else "", file=sys.stderr)
 sys.exit(1 if faults else 0)

@@ -5,14 +5,18 @@ import struct
 CORPUS = pathlib.Path(__file__).resolve().parent.parent / "crates" / "corpus"
 
 
+def filled_at(cases, at):
+    """A buffer or a name file that lies there, and where what follows it lies."""
+    length, last, given = struct.unpack_from("<IcI", cases, at)
+    at += 9
+    return cases[at:at + given] + last * (length - given), at + given
+
+
 def case_at(cases, at):
     """The title of the case that lies there, its buffer, the letters of its calls, and where the next case lies. The form is that of cases/form.py."""
     title = cases[at + 1:at + 1 + cases[at]]
-    at += 1 + len(title)
-    length, last, given = struct.unpack_from("<IcI", cases, at)
-    at += 9
-    buffer = cases[at:at + given] + last * (length - given)
-    at += given
+    buffer, at = filled_at(cases, at + 1 + len(title))
+    _, at = filled_at(cases, at)
     letters = b""
     while cases[at:at + 1] != b".":
         letters += cases[at:at + 1]

@@ -3,6 +3,7 @@ import base64
 import json
 import pathlib
 import re
+import struct
 import sys
 
 ROOT = pathlib.Path(__file__).resolve().parent.parent
@@ -10,7 +11,7 @@ sys.path.insert(0, str(ROOT / "cases"))
 
 from dumps import ALARM, INIT, ISR, PUMP, VALVE, Dump, changed, entry, slot
 from reader import Reading
-from texts import name as quoted
+from texts import NO_MEMBER, name as quoted
 from webdriver import Differs, same, until
 
 CONTROL, RELEASE, BACKSPACE, TAB, ENTER, SPACE, HOME, DOWN = "\ue009", "\ue000", "\ue003", "\ue004", "\ue007", " ", "\ue011", "\ue015"
@@ -47,6 +48,23 @@ DUMPS = {
 }
 
 
+def record(kind, number, name):
+    """A record of a name file: kind 1 is an event's, 2 a thread's."""
+    return struct.pack("<HHI", 4 + len(name), kind, number) + name
+
+
+BUILD = record(1, 5, b"start") + record(2, 0x20002000, b"valve")
+NAME_FILES = {
+    "build.names": BUILD, "other.names": record(1, 1025, b"alarm"), "empty.names": b"", "cut.names": BUILD[:-1], "long.names": bytes(65537),
+    # Bytes that are not printed as themselves, zeros too, and a name that would look like none but for its quotes.
+    "odd.names": record(1, 5, b'a"\\ \0\xff') + record(1, 6, b"none") + record(1, 1025, b"") + record(2, 0x20002000, b"null\0"),
+    # Six characters for each byte: of one event, and more than there is room for where each of 2,046 events has the name.
+    "wide.names": record(1, 5, b"\xff" * 300), "large.names": record(1, 5, b"\xff" * 65528),
+    "device.names": record(1, 1025, b"door opened") + record(1, 4096, b"dose changed") + record(2, ALARM, b"alarm"),
+}
+FILES = {**DUMPS, **NAME_FILES}
+
+
 def example(command):
     """The lines that the README shows below a command."""
     return re.search(rf"^\$ {re.escape(command)}\n((?:[^$`].*\n)+)", (ROOT / "README.md").read_text(), re.M)[1]
@@ -54,9 +72,13 @@ def example(command):
 
 def cells(lines):
     """The table's rows for a listing's lines."""
-    def row(key, ticks, us, id, ptr, by, name, gone, field, info):
-        called = "none" if name is None else quoted(name.encode("latin-1")) + " (removed)" * gone
-        return [str(text) for text in (key, ticks, us, id, by, called, ptr, field, " ".join(map(str, info)))]
+    def shown(name):
+        return "none" if name is None else quoted(name.encode("latin-1"))
+
+    def row(key, ticks, us, id, ptr, by, name, gone, field, info, event=NO_MEMBER):
+        own = [] if event is NO_MEMBER else [shown(event)]
+        return [str(text) for text in (key, ticks, us, id, *own, by, shown(name) + " (removed)" * gone, ptr, field, " ".join(map(str, info)))]
+
     return [row(**json.loads(line)) for line in lines.splitlines()]
 
 
@@ -74,6 +96,8 @@ return {
   about: part("about").checkVisibility() ? part("about").innerText : "",
   found: part("found").innerText,
   parts: ["mend", "mended", "events"].filter((id) => part(id).checkVisibility()),
+  forget: part("forget").checkVisibility(),
+  heads: [...part("table").tHead.rows[0].cells].filter((cell) => cell.checkVisibility()).map(text),
   kept: rows.length,
   rows: rows.filter((row) => row.checkVisibility()).map((row) => [...row.cells].map(text)),
   links: [...document.querySelectorAll("a[href]")].map(({ id }) => id),
@@ -92,7 +116,8 @@ DROP = """
 const data = new DataTransfer();
 const bytes = (text) => Uint8Array.from(atob(text), (character) => character.charCodeAt(0));
 for (const [name, text] of arguments[0]) data.items.add(new File([bytes(text)], name));
-const taken = (type) => !document.body.dispatchEvent(new DragEvent(type, { dataTransfer: data, bubbles: true, cancelable: true }));
+const place = document.querySelector(arguments[1]);
+const taken = (type) => !place.dispatchEvent(new DragEvent(type, { dataTransfer: data, bubbles: true, cancelable: true }));
 return ["dragover", "drop"].every(taken);"""
 FETCH = """
 const [address, done] = arguments;
@@ -101,7 +126,8 @@ fetch(address, { mode: "no-cors" }).then(() => done("nothing"), () => {});"""
 TALL = """
 const range = document.createRange();
 const lines = (cell) => (range.selectNodeContents(cell), range.getClientRects().length);
-return [...document.querySelectorAll("th, td")].filter((cell) => lines(cell) !== 1).map((cell) => cell.innerText);"""
+const cells = [...document.querySelectorAll("th, td")].filter((cell) => cell.checkVisibility());
+return cells.filter((cell) => lines(cell) !== 1).map((cell) => cell.innerText);"""
 # The row that is seen last once all is scrolled to the end.
 LAST = """
 const scroll = document.getElementById("scroll");
@@ -126,7 +152,7 @@ WIDTH = "return [document.getElementById('table').offsetWidth, document.getEleme
 CUT_OFF = "const scroll = document.getElementById('scroll'); return scroll.scrollHeight - scroll.clientHeight;"
 BREAK = "URL.createObjectURL = () => { throw new Error('no room'); };"
 CHOICE = """
-const file = document.getElementById("file");
+const file = document.getElementById(arguments[0]);
 file.addEventListener("click", (event) => event.preventDefault(), { once: true });
 file.click();
 const emptied = file.files.length;
@@ -149,6 +175,10 @@ class Page:
 
     def choose(self, dump):
         self.browser.type("#file", str(self.folder / "dumps" / dump))
+
+    def name(self, file):
+        """Chooses a name file."""
+        self.browser.type("#names", str(self.folder / "dumps" / file))
 
     def type(self, field, text):
         """Types over what stands in a field."""
@@ -177,9 +207,9 @@ class Page:
         if text is not None:
             self.type("wanted", text)
 
-    def drop(self, *dumps):
-        files = [(dump, base64.b64encode(DUMPS[dump]).decode()) for dump in dumps]
-        same("whether a drop is taken", self.browser.script(DROP, files), True)
+    def drop(self, *names, place="body"):
+        files = [(name, base64.b64encode(FILES[name]).decode()) for name in names]
+        same("whether a drop is taken", self.browser.script(DROP, files, place), True)
 
     def shows(self, says="", **expected):
         """The answer has these words, and the rest of what is shown is as expected."""

@@ -8,7 +8,7 @@
  * - A length is at most PTRDIFF_MAX, as that of every object in C is.
  * - Bytes lent to be written overlap no other bytes lent to the same call, and nothing else reads or writes them before it returns.
  * - Nothing writes bytes lent to be read before the call returns.
- * - The stack has room: 18 KB for lepsaino_listing, 2 KB for any other call.
+ * - The stack has room: 110 KB for lepsaino_listing_with_names, 18 KB for lepsaino_listing, 2 KB for any other call.
  *
  * A refusal is a number and a place; the table at the end of this file has them all. 0 as the number means that the call was accepted. After a refusal every
  * field but these two is 0, and no lent byte has changed. No call keeps a pointer, allocates, or reads or writes anything but what it is lent, so calls may run
@@ -25,12 +25,18 @@
 #endif
 
 /* The version, which docs/LANDINGS.md tells of; the command and the module for browsers give the same number, which stands here alone. */
-#define LEPSAINO_VERSION 17
+#define LEPSAINO_VERSION 18
 
 /* A dump, and a buffer that is formatted, has at most so many bytes; a mended copy always fits in so many. */
 #define LEPSAINO_DUMP_MOST 65536
 
-/* In so many bytes any line fits with its line feed, any listing, and the text of any number; nothing is measured first then. */
+/* A name file has at most so many bytes, and its records end there at the latest. */
+#define LEPSAINO_NAMES_MOST 65536
+
+/*
+ * In so many bytes any line fits with its line feed, any listing, and the text of any number; nothing is measured first then. The first two hold for the calls
+ * without a name file only: a name from a file can have 65,528 bytes, and each byte six in the text.
+ */
 #define LEPSAINO_LINE_ROOM 774
 #define LEPSAINO_LISTING_ROOM 1583604
 #define LEPSAINO_NUMBER_ROOM 22
@@ -89,16 +95,22 @@ enum lepsaino_context {
     LEPSAINO_THREAD = 3
 };
 
-/* Whether there is a name, and whose: a live thread's, whose entry in the registry is in use, or a removed thread's, whose entry is free. */
+/*
+ * Whether there is a name, and whose: a live thread's, whose entry in the registry is in use; a removed thread's, whose entry is free; or one that lies in the
+ * name file and not in the dump.
+ */
 enum lepsaino_name_kind {
     LEPSAINO_NAMELESS = 0,
     LEPSAINO_LIVE = 1,
-    LEPSAINO_GONE = 2
+    LEPSAINO_GONE = 2,
+    LEPSAINO_FILED = 3
 };
 
 /*
  * One event. context is one of enum lepsaino_context, and name_kind one of enum lepsaino_name_kind. The name is the dump's bytes from name_at on, name_length of
- * them: they lie within the dump. Where name_kind is LEPSAINO_NAMELESS both are 0.
+ * them: they lie within the dump. Where name_kind is LEPSAINO_FILED they are the name file's, and lie within that. Where it is LEPSAINO_NAMELESS both are 0.
+ * The last three are the event's own name, which lies in the name file: event_kind is LEPSAINO_FILED, or LEPSAINO_NAMELESS and then both others are 0. Without
+ * a name file all three are 0.
  */
 struct lepsaino_event {
     uint32_t refusal;
@@ -109,9 +121,15 @@ struct lepsaino_event {
     uint32_t name_kind;
     size_t name_at;
     size_t name_length;
+    uint32_t event_kind;
+    size_t event_at;
+    size_t event_length;
 };
 
-/* What finding a name gives: kind is one of enum lepsaino_name_kind, and the name is the dump's bytes from at on, length of them. Where kind is LEPSAINO_NAMELESS both are 0. */
+/*
+ * What finding a name gives: kind is one of enum lepsaino_name_kind, and the name is the dump's bytes from at on, length of them; the name file's where kind is
+ * LEPSAINO_FILED. Where kind is LEPSAINO_NAMELESS both are 0.
+ */
 struct lepsaino_name {
     uint32_t refusal;
     size_t place;
@@ -214,6 +232,39 @@ struct lepsaino_answer lepsaino_line(const uint8_t *dump, size_t dump_length, st
 /* A line for each event, oldest first, at the front of out: checks 1 to 16. The value is their length; out past it keeps its bytes. */
 struct lepsaino_answer lepsaino_listing(const uint8_t *dump, size_t dump_length, struct lepsaino_reading reading, uint8_t *out, size_t out_length);
 
+/*
+ * The same four with a name file, which names events and threads. It is records one after another, little-endian whatever the dump's byte order: a length of two
+ * bytes, a kind of two bytes, and so many bytes. Kind 1 is an event's id, four bytes, and then a name to the record's end, of any bytes; kind 2 the same with a
+ * thread's pointer; records of other kinds are stepped over. The first record for an id or for a pointer counts. A thread's name comes from the dump where it is
+ * there, also a removed thread's, and otherwise from the file. An empty file is a file. The file's checks are 2 and 27, in that order; those before them are of
+ * the dump and the reading, those behind them of the position and the room.
+ */
+
+/* One event by its position, with its own name too: checks 1 to 13, then 2 and 27 for the file, then 25. */
+struct lepsaino_event lepsaino_event_with_names(const uint8_t *dump, size_t dump_length, const uint8_t *names, size_t names_length, size_t position);
+
+/* The name for a pointer, whatever its context, in the dump or else in the file: checks 1 to 11, then 2 and 27 for the file. */
+struct lepsaino_name lepsaino_find_name_with_names(const uint8_t *dump, size_t dump_length, const uint8_t *names, size_t names_length, uint32_t pointer);
+
+/*
+ * The line of one event, which has "event" and its own name or null behind "id": checks 1 to 15, then 2 and 27 for the file, then 25, 16. The value is its
+ * length; out past it keeps its bytes.
+ */
+struct lepsaino_answer lepsaino_line_with_names(const uint8_t *dump, size_t dump_length, struct lepsaino_reading reading, size_t position,
+    const uint8_t *names, size_t names_length, uint8_t *out, size_t out_length);
+
+/* Such a line for each event, oldest first: checks 1 to 15, then 2 and 27 for the file, then 16. The value is their length; out past it keeps its bytes. */
+struct lepsaino_answer lepsaino_listing_with_names(const uint8_t *dump, size_t dump_length, struct lepsaino_reading reading,
+    const uint8_t *names, size_t names_length, uint8_t *out, size_t out_length);
+
+/*
+ * Writes one record of a name file at an offset, any number: for an event where thread is 0, for a thread where it is any other number, with the id or the
+ * pointer and a name of any bytes. Checks 28, 16. The value is the record's length, 8 more than the name's; added to the offset it is where the next record goes.
+ * No byte outside the record changes. The bytes lent may be more than LEPSAINO_NAMES_MOST, and are a name file up to where the last record ends.
+ */
+struct lepsaino_answer lepsaino_write_name(uint8_t *names, size_t names_length, size_t offset, uint32_t thread, uint32_t number,
+    const uint8_t *name, size_t name_length);
+
 /* The text of a number as in a line, at the front of out, and its length: bare digits below 2^53, in quotes from there on. 0, and nothing written, where there is no room. */
 size_t lepsaino_number(uint8_t *out, size_t out_length, uint64_t number);
 
@@ -243,11 +294,11 @@ struct lepsaino_answer lepsaino_remove(uint8_t *buffer, size_t buffer_length, ui
 #endif
 
 /*
- * Refusals, by number; N stands for the place, which is the lowest such entry or slot, counted from 0, and for 26 the count of missing bytes. Where there is no N
- * the place is 0. 26 is the last part of checks 7 and 9: the order is 1 to 7, 26, 8, 9, 26, 10 and so on, first for the registry's end and then for the slots'.
- * docs/RULES.md says what a person does next. The command reads its words here.
+ * Refusals, by number; N stands for the place, which is the lowest such entry or slot, counted from 0, for 26 the count of missing bytes, and for 27 the lowest
+ * such record's offset in the name file, counted in bytes. Where there is no N the place is 0. 26 is the last part of checks 7 and 9: the order is 1 to 7, 26, 8,
+ * 9, 26, 10 and so on, first for the registry's end and then for the slots'. docs/RULES.md says what a person does next. The command reads its words here.
  *  1  the dump has fewer than 48 bytes
- *  2  the dump or the buffer has more than 65,536 bytes
+ *  2  the dump, the buffer or the name file has more than 65,536 bytes
  *  3  the first four bytes are not those of a trace buffer, in either byte order
  *  4  the mask is not a run of ones from the lowest bit on
  *  5  the name size is not a multiple of 4 from 4 to 64
@@ -261,7 +312,7 @@ struct lepsaino_answer lepsaino_remove(uint8_t *buffer, size_t buffer_length, ui
  * 13  slot N is used with the event id 0
  * 14  the clock rate is 0
  * 15  the unit number is above 16,777,215, or the first serial and the number of events add up to more than 1,099,511,627,776
- * 16  the output is shorter than the text or the copy
+ * 16  the output ends before the text, the copy or the record does
  * 17  the thread pointer to be written is 0
  * 18  the event id to be written is 0
  * 19  the type of the object is not allowed
@@ -272,6 +323,8 @@ struct lepsaino_answer lepsaino_remove(uint8_t *buffer, size_t buffer_length, ui
  * 24  the buffer has no room for the header, the registry and one slot
  * 25  there is no event at that position
  * 26  the dump was cut; bytes missing up to the end of its registry or its slots: N
+ * 27  the record at offset N of the name file runs past its end, or names an event or a thread and is shorter than 4 bytes
+ * 28  the record would end past byte 65,536 of the name file
  */
 
 #endif

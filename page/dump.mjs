@@ -1,32 +1,49 @@
-// The page: a dump is chosen or dropped, checked, listed, searched, mended and saved, all here.
+// The page: a dump is chosen or dropped, checked, listed, with names from the build or without, searched, mended and saved, all here.
+import { FileField } from "./field.mjs";
 import { readListing } from "./lepsaino.mjs";
 import { load } from "./library.mjs";
 import { numberIn, testFor } from "./search.mjs";
 import { EventTable } from "./table.mjs";
 
-const LONGEST_DUMP = 65536;
 const COUNTS = ["missing", "current", "types", "ids", "packed", "moved"];
 const READING = {
   rate: { title: "the clock rate", least: 1n, most: 2n ** 32n - 1n },
   unit: { title: "the unit number", least: 0n, most: 2n ** 32n - 1n },
   serial: { title: "the first serial", least: 0n, most: 2n ** 64n - 1n },
 };
-const CHOOSE = "Choose a dump, or drop one on this page.";
+// What is said while a field has no file, by why it has none.
+const OF_A_DUMP = {
+  none: "Choose a dump, or drop one on this page.",
+  many: "Give one file at a time.",
+  reading: "Reading.",
+  unreadable: "This file could not be read.",
+};
+const OF_NAMES = {
+  none: null,
+  many: "Give one name file at a time.",
+  reading: "Reading the name file.",
+  unreadable: "The name file could not be read.",
+};
+// Once the dump has passed its check, these are refusals of the name file, or of what it makes of the listing.
+const NAMES_REFUSED = {
+  2: "The name file is refused. ",
+  16: "With these names the listing is longer than this page has room for. ",
+  27: "The name file is refused. ",
+};
 
 const part = (id) => document.getElementById(id);
 const table = new EventTable(part("table"));
 const saves = [part("save-copy"), part("save-listing")];
 
+const dump = new FileField(part("file"), OF_A_DUMP, takeDump);
+const names = new FileField(part("names"), OF_NAMES, takeNames);
+
 let library = null;
-/** What is said while there is no library, and while there is no dump. */
+/** What is said while there is no library. */
 let loading = "";
-let awaited = CHOOSE;
-/** The dump as it was chosen, and the copy where it was mended and is shown in its place. */
-let dump = null;
+/** The copy where the dump was mended and it is shown in its place, and whether mending was not refused yet. */
 let mended = null;
-/** The field's files before a choice. */
-let chosen = null;
-let turn = 0;
+let mayBeMended = true;
 
 function say(text) {
   part("answer").textContent = text;
@@ -81,7 +98,7 @@ function showEvents(text, count) {
   table.show(events);
   const marked = "A name marked (removed) is that of a thread which had been removed when the dump was taken.";
   part("caption").textContent = events.some(({ gone }) => gone) ? `Oldest first. ${marked}` : "Oldest first.";
-  offer(part("save-listing"), `${dump.name}${mended ? ".mended" : ""}.jsonl`, text);
+  offer(part("save-listing"), `${dump.file.name}${mended ? ".mended" : ""}.jsonl`, text);
   part("events").hidden = false;
   search();
 }
@@ -95,16 +112,18 @@ function search() {
 
 function showMended() {
   for (const id of COUNTS) part(id).textContent = mended.counts[id];
-  offer(part("save-copy"), `${dump.name}.mended`, mended.copy);
+  offer(part("save-copy"), `${dump.file.name}.mended`, mended.copy);
   part("mended").hidden = false;
 }
 
 /** Lists what passed the check. */
 function list(bytes, count, { reading, faults }) {
   const copy = mended ? "The mended copy: " : "";
+  const file = names.file?.bytes;
+  // Finding any name checks the name file too.
+  const { refusal, text } = faults.length > 0 ? library.findName(bytes, 0, file) : library.list(bytes, reading, file);
+  if (refusal) return say(`${NAMES_REFUSED[refusal.number] ?? copy}${refusalText(refusal)}`);
   if (faults.length > 0) return say(`${copy}${eventCount(count)}, and every check passes. To list them: ${faults.join("; ")}.`);
-  const { refusal, text } = library.list(bytes, reading);
-  if (refusal) return say(`${copy}${refusalText(refusal)}`);
   showEvents(text, count);
   const keys = count === 0 ? "the ring is empty" : count === 1 ? "under a key of its own" : "each under a key of its own";
   say(`${copy}${eventCount(count)}, ${keys}.`);
@@ -114,7 +133,9 @@ function list(bytes, count, { reading, faults }) {
 function showAbout() {
   part("kind").textContent = mended ? "a mended copy of the file" : "the file";
   part("source").textContent = mended ? "the mended copy of" : "";
-  for (const name of document.querySelectorAll(".file")) name.textContent = dump.name;
+  for (const name of document.querySelectorAll(".file")) name.textContent = dump.file.name;
+  part("names-file").textContent = names.file?.name ?? "";
+  part("named").hidden = names.file === null;
   part("about").hidden = false;
 }
 
@@ -122,14 +143,14 @@ function show() {
   clear();
   const given = readingGiven();
   if (library === null) return say(loading);
-  if (dump === null) return say(awaited);
+  for (const { awaited } of [dump, names]) if (awaited !== null) return say(awaited);
   showAbout();
   if (mended) showMended();
-  const bytes = mended ? mended.copy : dump.bytes;
+  const bytes = mended ? mended.copy : dump.file.bytes;
   const { refusal, events } = library.check(bytes);
   if (!refusal) return list(bytes, events, given);
-  part("mend").hidden = !dump.mayBeMended;
-  say(dump.mayBeMended ? refusalText(refusal) : `It cannot be mended. ${refusalText(refusal)}`);
+  part("mend").hidden = !mayBeMended;
+  say(mayBeMended ? refusalText(refusal) : `It cannot be mended. ${refusalText(refusal)}`);
 }
 
 /** Shows all anew. An error that nobody thought of is told, and leaves nothing that could pass for an answer. */
@@ -143,8 +164,8 @@ function showSafely() {
 }
 
 function mend() {
-  const answer = library.mend(dump.bytes);
-  if (answer.refusal) dump.mayBeMended = false;
+  const answer = library.mend(dump.file.bytes);
+  if (answer.refusal) mayBeMended = false;
   else mended = answer;
   showSafely();
   // The button that was pressed is gone.
@@ -157,27 +178,23 @@ function discard() {
   part("mend").focus();
 }
 
-/** What is said until a dump is there. */
-function wait(text) {
-  awaited = text;
+/** Of another dump nothing stays: no copy, and no search. */
+function takeDump() {
+  mended = null;
+  mayBeMended = true;
+  part("wanted").value = "";
   showSafely();
 }
 
-async function take(files) {
-  const mine = (turn += 1);
-  dump = null;
-  mended = null;
-  part("wanted").value = "";
-  if (files.length === 0) return wait(CHOOSE);
-  if (files.length > 1) return wait("Give one file at a time.");
-  wait("Reading.");
-  const [file] = files;
-  // A longer file is refused for its length: no more of it is read.
-  const content = await file.slice(0, LONGEST_DUMP + 1).arrayBuffer().catch(() => null);
-  if (mine !== turn) return;
-  if (content === null) return wait("This file could not be read.");
-  dump = { name: file.name, bytes: new Uint8Array(content), mayBeMended: true };
+function takeNames() {
+  part("forget").hidden = names.file === null && names.awaited === null;
   showSafely();
+}
+
+function forget() {
+  names.give([]);
+  // The button that was pressed is gone.
+  names.focus();
 }
 
 const holdsFiles = ({ dataTransfer }) => dataTransfer.types.includes("Files");
@@ -185,17 +202,8 @@ const holdsFiles = ({ dataTransfer }) => dataTransfer.types.includes("Files");
 function drop(event) {
   if (!holdsFiles(event)) return;
   event.preventDefault();
-  const { files } = event.dataTransfer;
-  if (files.length === 1) part("file").files = files;
-  else part("file").value = "";
-  take(files);
-}
-
-/** A list of files of its own, which stays when the field is emptied. */
-function copied(files) {
-  const list = new DataTransfer();
-  for (const file of files) list.items.add(file);
-  return list.files;
+  const field = part("names-field").contains(event.target) ? names : dump;
+  field.give(event.dataTransfer.files);
 }
 
 /** One file with all of it holds the module as text; otherwise the module lies beside the page. */
@@ -215,14 +223,11 @@ async function start() {
 }
 
 part("form").addEventListener("submit", (event) => event.preventDefault());
-// Emptied before a choice, the field takes a file that was written anew under the same name; where none is chosen, it gets its file back.
-part("file").addEventListener("click", () => { chosen = copied(part("file").files); part("file").value = ""; });
-part("file").addEventListener("cancel", () => { part("file").files = chosen; });
-part("file").addEventListener("change", () => take(part("file").files));
 document.addEventListener("dragover", (event) => { if (holdsFiles(event)) event.preventDefault(); });
 document.addEventListener("drop", drop);
 for (const id of Object.keys(READING)) part(id).addEventListener("input", showSafely);
 for (const id of ["by", "wanted"]) part(id).addEventListener("input", search);
 part("mend").addEventListener("click", mend);
 part("discard").addEventListener("click", discard);
+part("forget").addEventListener("click", forget);
 start();

@@ -8,6 +8,8 @@ export interface ListedEvent {
   readonly ticks: bigint;
   readonly us: bigint;
   readonly id: number;
+  /** The event's own name, or null where there is none; not there in a line that was made without a name file. */
+  readonly event?: string | null;
   readonly ptr: number;
   readonly by: "init" | "isr" | "thread";
   /** A character for each byte; null where there is no name. */

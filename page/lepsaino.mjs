@@ -9,7 +9,9 @@ const TIMER_RANGE = 1n << 32n;
 // 2,045 gaps of 2^32 - 1 ticks.
 const LARGEST_TICKS = "8783208118275";
 const MICROSECONDS_OF_A_SECOND = 1000000n;
-const LONGEST_NAME = 64;
+// A zero byte ends a name in a dump; in a name file a name goes to its record's end.
+const OF_A_DUMP = { longest: 64, hasZeros: false };
+const OF_A_FILE = { longest: 65528, hasZeros: true };
 
 // What the command prints in the place of a listing: the refusal's number and its place, which are small.
 const REFUSAL = /^([1-9][0-9]?) (0|[1-9][0-9]{0,14})\n$/;
@@ -68,6 +70,7 @@ export function readListing(text, { events: expected } = {}) {
   if (expected !== undefined) checkCount(lines.length, countIn(expected));
   const events = lines.map((line, index) => readNumberedLine(line, index + 1));
   events.forEach((event, index) => checkKeyAfter(events, index));
+  events.forEach((event, index) => checkMembers(events, index));
   events.forEach((event, index) => checkTicksAfter(events, index));
   return events;
 }
@@ -107,6 +110,14 @@ function checkTicksAfter(events, index) {
   if (ticks - before >= TIMER_RANGE) refuse(`the ticks leap from ${before} to ${ticks}: a gap is below ${TIMER_RANGE}`);
 }
 
+// A listing is made with a name file or without one, so either every line tells its event's name or none does.
+function checkMembers(events, index) {
+  const { event } = events[index];
+  if ((event === undefined) === (events[0].event === undefined)) return;
+  const [here, first] = event === undefined ? ["no", "one"] : ["an", "none"];
+  throw new RefusedLine(index + 1, 1, `the line has ${here} "event", and the first line has ${first}`);
+}
+
 function mustBeText(text) {
   if (typeof text !== "string") throw new RefusedLine(1, 1, "what was given is not a text");
 }
@@ -119,17 +130,19 @@ function readNumberedLine(text, line) {
   // The slowest clock has a rate of 1.
   const us = BigInt(scanner.after(',"us":').atMost(`${ticks * MICROSECONDS_OF_A_SECOND}`));
   const id = scanner.after(',"id":').wordFromOne();
+  const own = scanner.ownName();
   const ptr = scanner.after(',"ptr":').wordFromOne();
   const by = contextOf(ptr);
   scanner.after(`,"by":"${by}"`);
-  const name = scanner.after(',"name":').name(by);
+  const name = scanner.after(',"name":').threadName(by, own === undefined ? OF_A_DUMP : OF_A_FILE);
   const gone = scanner.after(',"gone":').gone(name);
   const field = scanner.after(',"field":').word();
   const info = [scanner.after(',"info":[').word()];
   while (info.length < 4) info.push(scanner.after(",").word());
   scanner.after("]}").end();
+  const event = own === undefined ? {} : { event: own };
   return Object.freeze({
-    key: BigInt(keyText), keyText, ticks, us, id, ptr, by, name, gone, field, info: Object.freeze(info),
+    key: BigInt(keyText), keyText, ticks, us, id, ...event, ptr, by, name, gone, field, info: Object.freeze(info),
   });
 }
 
@@ -141,6 +154,10 @@ function contextOf(pointer) {
 // Plain digits compare by their count and then as text, without becoming a number.
 function isAtMost(digits, limit) {
   return digits.length < limit.length || (digits.length === limit.length && digits <= limit);
+}
+
+function isOfADump(name) {
+  return name.length <= OF_A_DUMP.longest && !name.includes("\0");
 }
 
 function isPrintedAsItself(code) {
@@ -217,32 +234,44 @@ class Scanner {
     return this.word();
   }
 
-  name(context) {
+  /** The event's own name or null, and undefined in a line that was made without a name file. */
+  ownName() {
+    const member = ',"event":';
+    return this.text.startsWith(member, this.at) ? this.after(member).name(OF_A_FILE) : undefined;
+  }
+
+  threadName(context, source) {
+    if (context === "init" && !this.text.startsWith("null", this.at)) this.refuse("an init event has no name: expected null");
+    return this.name(source);
+  }
+
+  /** A name that a source may have, or null. */
+  name(source) {
     if (this.text.startsWith("null", this.at)) {
       this.at += 4;
       return null;
     }
-    if (context === "init") this.refuse("an init event has no name: expected null");
     this.after('"');
     let name = "";
     while (this.text[this.at] !== '"') {
-      if (name.length === LONGEST_NAME) this.refuse(`the name is longer than ${LONGEST_NAME} bytes`);
-      name += this.nameCharacter();
+      if (name.length === source.longest) this.refuse(`the name is longer than ${source.longest} bytes`);
+      name += this.nameCharacter(source);
     }
     this.at += 1;
     return name;
   }
 
-  /** Whether the name is that of a removed thread; where there is no name, it never is. */
+  /** Whether the name is that of a removed thread, which the dump alone can tell; where there is no name, it never is. */
   gone(name) {
     const text = ["true", "false"].find((each) => this.text.startsWith(each, this.at));
     if (text === undefined) this.refuse(`expected true or false but found ${this.next()}`);
     if (text === "true" && name === null) this.refuse("there is no name, so none is gone: expected false");
+    if (text === "true" && !isOfADump(name)) this.refuse("no dump has such a name, so it is not gone: expected false");
     this.at += text.length;
     return text === "true";
   }
 
-  nameCharacter() {
+  nameCharacter(source) {
     const character = this.text[this.at];
     if (character === undefined) this.refuse("the name is cut off");
     if (!isPrintedAsItself(character.charCodeAt(0))) this.refuse("the name holds a character that must be escaped");
@@ -250,10 +279,10 @@ class Scanner {
       this.at += 1;
       return character;
     }
-    return this.escaped();
+    return this.escaped(source);
   }
 
-  escaped() {
+  escaped(source) {
     const short = this.match(SHORT_ESCAPE);
     if (short) {
       this.at += 2;
@@ -263,7 +292,7 @@ class Scanner {
     if (!long) this.refuse('the name holds an escape other than \\", \\\\ and \\u00 with two lowercase hex digits');
     const code = parseInt(long[1], 16);
     if (isPrintedAsItself(code)) this.refuse(`the name holds ${long[0]}, a byte that is not printed so`);
-    if (code === 0) this.refuse("the name holds a zero byte, which ends a name");
+    if (code === 0 && !source.hasZeros) this.refuse("the name holds a zero byte, which ends a name");
     this.at += long[0].length;
     return String.fromCharCode(code);
   }

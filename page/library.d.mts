@@ -48,10 +48,15 @@ export interface Name {
   name: string | null;
   gone: boolean;
   nameAt: number | null;
+  /** There where a name file is given: true where the name lies in it and not in the dump, and then `nameAt` is its place in the file. */
+  filed?: boolean;
 }
 
 /** One event: its slot's eight words, its ticks, its context and its name. */
 export interface DumpEvent extends Name {
+  /** There where a name file is given: the event's own name and where in the file it begins; both null where there is none. */
+  event?: string | null;
+  eventAt?: number | null;
   ptr: number;
   field: number;
   id: number;
@@ -59,6 +64,18 @@ export interface DumpEvent extends Name {
   info: readonly [number, number, number, number];
   ticks: bigint;
   by: "init" | "isr" | "thread";
+}
+
+/** A record of a name file: the id of an event or the pointer of a thread, of 32 bits, and its name, of any bytes. */
+export interface NameRecord {
+  readonly kind: "event" | "thread";
+  readonly number: Whole;
+  readonly name: Bytes;
+}
+
+export interface Written {
+  /** The record's length, 8 more than its name's: added to the offset it is where the next record goes. */
+  length: number;
 }
 
 /** What was mended, in six counts. */
@@ -95,14 +112,16 @@ export interface Library {
   readonly version: number | null;
   /** Checks 1 to 13. */
   check(dump: Bytes): Answer<Checked>;
-  /** The text of all lines, oldest event first: checks 1 to 15. `readListing` of lepsaino.mjs gives its events. */
-  list(dump: Bytes, reading: Reading): Answer<Text>;
-  /** The line of one event, with its line feed: checks 1 to 15, then 25. */
-  line(dump: Bytes, reading: Reading, position: Whole): Answer<Text>;
-  /** One event by its position, from 0, oldest first: checks 1 to 13, then 25. */
-  event(dump: Bytes, position: Whole): Answer<DumpEvent>;
-  /** The name for a thread's pointer: checks 1 to 11. */
-  findName(dump: Bytes, pointer: Whole): Answer<Name>;
+  /** The text of all lines, oldest event first: checks 1 to 15; with a name file then 2, 27, 16. `readListing` of lepsaino.mjs gives its events. */
+  list(dump: Bytes, reading: Reading, names?: Bytes): Answer<Text>;
+  /** The line of one event, with its line feed: checks 1 to 15; with a name file then 2, 27; then 25. */
+  line(dump: Bytes, reading: Reading, position: Whole, names?: Bytes): Answer<Text>;
+  /** One event by its position, from 0, oldest first: checks 1 to 13; with a name file then 2, 27; then 25. */
+  event(dump: Bytes, position: Whole, names?: Bytes): Answer<DumpEvent>;
+  /** The name for a thread's pointer, in the dump or else in the name file: checks 1 to 11; with a file then 2, 27. */
+  findName(dump: Bytes, pointer: Whole, names?: Bytes): Answer<Name>;
+  /** Writes one record of a name file into the bytes given, at an offset: checks 28, 16. No byte outside the record changes, and none in a refusal. */
+  writeName(names: Bytes, offset: Whole, record: NameRecord): Answer<Written>;
   /** A mended copy, which passes every check: checks 1 to 9, save 26 for the slots' end. */
   mend(dump: Bytes): Answer<Mended>;
   /** The check of a dump in pieces, before any byte. */

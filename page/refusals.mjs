@@ -2,7 +2,7 @@
 
 const WORDS = [
   "the dump has fewer than 48 bytes",
-  "the dump or the buffer has more than 65,536 bytes",
+  "the dump, the buffer or the name file has more than 65,536 bytes",
   "the first four bytes are not those of a trace buffer, in either byte order",
   "the mask is not a run of ones from the lowest bit on",
   "the name size is not a multiple of 4 from 4 to 64",
@@ -16,7 +16,7 @@ const WORDS = [
   "slot N is used with the event id 0",
   "the clock rate is 0",
   "the unit number is above 16,777,215, or the first serial and the number of events add up to more than 1,099,511,627,776",
-  "the output is shorter than the text or the copy",
+  "the output ends before the text, the copy or the record does",
   "the thread pointer to be written is 0",
   "the event id to be written is 0",
   "the type of the object is not allowed",
@@ -27,6 +27,8 @@ const WORDS = [
   "the buffer has no room for the header, the registry and one slot",
   "there is no event at that position",
   "the dump was cut; bytes missing up to the end of its registry or its slots: N",
+  "the record at offset N of the name file runs past its end, or names an event or a thread and is shorter than 4 bytes",
+  "the record would end past byte 65,536 of the name file",
 ];
 
 /** A refusal's number, its place, and both in words. */

@@ -13,10 +13,16 @@ export function nameText(name) {
   return name.replace(/["\\]|[^ -~]/g, escaped);
 }
 
-/** An event's name in a table. The mark stands outside the name's quotes, so that no name can look like a marked one. */
+const inQuotes = (name) => (name === null ? "none" : `"${nameText(name)}"`);
+
+/** A thread's name in a table. The mark stands outside the name's quotes, so that no name can look like a marked one. */
 export function shownName({ name, gone }) {
-  if (name === null) return "none";
-  return gone ? `"${nameText(name)}" (removed)` : `"${nameText(name)}"`;
+  return gone ? `${inQuotes(name)} (removed)` : inQuotes(name);
+}
+
+/** An event's own name in a table; undefined where no name file was given. */
+export function shownOwnName({ event }) {
+  return event === undefined ? undefined : inQuotes(event);
 }
 
 const isWithin = (part, text) => text.toLowerCase().includes(part.toLowerCase());
@@ -24,9 +30,10 @@ const isWithin = (part, text) => text.toLowerCase().includes(part.toLowerCase())
 /** A name whose bytes are read as UTF-8. */
 const asText = (name) => new TextDecoder().decode(Uint8Array.from(name, (character) => character.charCodeAt(0)));
 
-/** A test of names: the text is a part of the name byte by byte, as it is shown, or as UTF-8. */
+/** A test of names: the text is a part of the thread's name or of the event's own, byte by byte, as it is shown, or as UTF-8. */
 function nameTest(text) {
-  return (event) => event.name !== null && [event.name, shownName(event), asText(event.name)].some((name) => isWithin(text, name));
+  const isIn = (name, shown) => (name ?? null) !== null && [name, shown, asText(name)].some((each) => isWithin(text, each));
+  return (event) => isIn(event.name, shownName(event)) || isIn(event.event, shownOwnName(event));
 }
 
 /** A test of events by key, by name or by id, or null where the text can be none. No text is every event's. */

@@ -60,7 +60,7 @@ fn cut<'a>(mut rest: &'a [u8], chance: &mut Chance) -> Vec<&'a [u8]> {
 
 /// The same bytes at the same place, of a thread that is live or gone in both.
 fn compare_name(dump: &[u8], pointer: u32) {
-    let place = |name: Option<Name>| name.map(|name| (name.bytes.as_ptr_range(), name.gone));
+    let place = |name: Option<Name>| name.map(|name| (name.bytes.as_ptr_range(), name.kind));
     let given = find_name(dump, pointer).map(place);
     let expected = peer::find_name(dump, pointer).map(|name| place(name.map(named_by_peer)));
     assert_eq!(given, expected.map_err(refused_by_peer));
@@ -80,6 +80,7 @@ fn baselines_agree_with_the_peer() {
     for _ in 0..CASES {
         let case = generator.next_case();
         let mut buffer = case.buffer();
+        let mut names = case.names();
         for call in &case.calls {
             match call {
                 Call::Line { reading, .. } | Call::Listing { reading, .. } => {
@@ -92,7 +93,7 @@ fn baselines_agree_with_the_peer() {
                 Call::FindName { pointer } => compare_name(&buffer, *pointer),
                 Call::Record(words) => compare_record(&mut buffer, words),
                 Call::Mend { room } => drop(agreed_mending(&buffer, *room as usize)),
-                _ => drop(peer::answers::answer(&mut buffer, call)),
+                _ => drop(peer::answers::answer(&mut buffer, &mut names, call)),
             }
         }
     }

@@ -3,7 +3,7 @@
 use crate::contest::opaque;
 use crate::plain::{called, check, find, mend, record, Refusal};
 use crate::{with_itoa, with_serde};
-use lepsaino::{Mended, Name, Reading, Slot};
+use lepsaino::{Mended, Name, NameKind, Reading, Slot};
 
 /// Room for any listing.
 const ROOM: usize = 1_600_000;
@@ -153,7 +153,11 @@ pub fn refused_by_peer(refusal: peer::Refusal) -> Refusal {
 pub fn named_by_peer(name: peer::Name<'_>) -> Name<'_> {
     Name {
         bytes: name.bytes,
-        gone: name.gone,
+        kind: match name.kind {
+            peer::NameKind::Live => NameKind::Live,
+            peer::NameKind::Gone => NameKind::Gone,
+            peer::NameKind::Filed => NameKind::Filed,
+        },
     }
 }
 

@@ -9,7 +9,7 @@ use crate::dumps::{Dump, BIG, LARGEST, LITTLE};
 use crate::feeders::{Feeder, FEEDERS};
 use crate::numbers::fixed;
 use crate::plain::Refusal;
-use lepsaino::{Mended, Name};
+use lepsaino::{Mended, Name, NameKind};
 
 /// How many events are recorded in a call where recording is timed.
 pub const RECORDED: u32 = 1_000_000;
@@ -65,7 +65,7 @@ pub const JOBS: [Job; 19] = [
 /// The last of 1,500 names.
 const LAST: Name = Name {
     bytes: b"1499",
-    gone: false,
+    kind: NameKind::Live,
 };
 
 /// Nothing was mended.

@@ -19,9 +19,9 @@ export function kept(path) {
 }
 
 /** Files of cases, and what must be printed for them one after another: by the peer, and by the reader, the writer and the mender in Python. */
-export const CORPUS = { cases: ["crates/corpus/data/cases"], printed: "crates/corpus/stdout", fewestCalls: 26000 };
+export const CORPUS = { cases: ["crates/corpus/data/cases"], printed: "crates/corpus/stdout", fewestCalls: 31000 };
 export const CASES = {
-  cases: ["check", "pieces", "reader", "writer", "mender"].map((name) => `crates/cases/data/${name}`),
+  cases: ["check", "pieces", "reader", "writer", "mender", "names"].map((name) => `crates/cases/data/${name}`),
   printed: "crates/cases/stdout",
-  fewestCalls: 22000,
+  fewestCalls: 30000,
 };

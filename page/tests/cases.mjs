@@ -1,6 +1,7 @@
-// Reads a file of cases: of each case a title, a buffer, and calls that are made in turn on the buffer.
+// Reads a file of cases: of each case a title, a buffer, a name file, and calls that are made in turn on the two.
 
-const LONGEST_BUFFER = 65537;
+// A buffer that records are written into may be longer than a name file.
+const LONGEST_BUFFER = 70000;
 
 /** A place in bytes that are read from front to back; numbers are little-endian, and past the end nothing can be read. */
 class Source {
@@ -52,8 +53,15 @@ const formatIn = (given) => ({ big: given.byte(), base: given.word(), mask: give
 const wordsIn = (given, count) => Array.from({ length: count }, () => given.word());
 const objectIn = (given) => ({ type: given.byte(), words: wordsIn(given, 3), reserved: [given.byte(), given.byte()] });
 
+/** A name as a buffer is given, but for how many bytes come: all that are left. */
+function nameIn(given) {
+  const name = filled(given.word(), given.byte());
+  name.set(given.rest());
+  return name;
+}
+
 // A call's arguments by its letter, as they stand in the file.
-const ARGUMENTS = {
+const CALLS = {
   c: () => [],
   p: (given) => [given.word(), given.word() + 1],
   e: (given) => [given.long()],
@@ -66,12 +74,18 @@ const ARGUMENTS = {
   w: (given) => [wordsIn(given, 8)],
   o: (given) => [objectIn(given), given.rest()],
   x: (given) => [given.word()],
+  r: (given) => [given.byte(), given.word(), given.long(), nameIn(given)],
 };
+// With the name file each of these takes the same.
+const ARGUMENTS = { ...CALLS, E: CALLS.e, N: CALLS.n, L: CALLS.l, A: CALLS.a };
+
+function filled(length, byte) {
+  if (length > LONGEST_BUFFER) throw new Error(`no buffer has ${length} bytes`);
+  return Buffer.alloc(length, byte);
+}
 
 function bufferIn(file) {
-  const length = file.word();
-  if (length > LONGEST_BUFFER) throw new Error(`no buffer has ${length} bytes`);
-  const buffer = Buffer.alloc(length, file.byte());
+  const buffer = filled(file.word(), file.byte());
   buffer.set(file.part(file.word()));
   return buffer;
 }
@@ -93,10 +107,10 @@ function callsIn(file) {
   }
 }
 
-/** The cases of a file: of each its title, its buffer before the first call, and its calls. */
+/** The cases of a file: of each its title, its buffer and its name file before the first call, and its calls. */
 export function casesIn(bytes) {
   const file = new Source(bytes);
   const cases = [];
-  while (!file.ended) cases.push({ title: file.part(file.byte()).latin1Slice(), buffer: bufferIn(file), calls: callsIn(file) });
+  while (!file.ended) cases.push({ title: file.part(file.byte()).latin1Slice(), buffer: bufferIn(file), names: bufferIn(file), calls: callsIn(file) });
   return cases;
 }

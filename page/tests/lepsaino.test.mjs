@@ -15,10 +15,19 @@ const DOCUMENT_LINES = [
   '{"key":"9007199254740994","ticks":56,"us":18,"id":6,"ptr":536879104,"by":"thread","name":null,"gone":false,"field":16,"info":[7,0,0,0]}',
 ];
 
-/** A line in which each member is the text given, or a sound one. */
+// The same with a name file that names the event 5 and the thread 0x20002000.
+const NAMED_LINES = [
+  '{"key":"9007199254740992","ticks":0,"us":0,"id":5,"event":"start","ptr":536875008,"by":"thread","name":"pump","gone":false,"field":16,"info":[1,2,3,4]}',
+  '{"key":"9007199254740993","ticks":56,"us":18,"id":1025,"event":null,"ptr":4294967295,"by":"isr","name":"pump","gone":false,"field":536875008,"info":[0,0,0,0]}',
+  '{"key":"9007199254740994","ticks":56,"us":18,"id":6,"event":null,"ptr":536879104,"by":"thread","name":"valve","gone":false,"field":16,"info":[7,0,0,0]}',
+];
+const LONGEST = 65528;
+
+/** A line in which each member is the text given, or a sound one; the event's own name is there where it is given. */
 function line(members = {}) {
+  const own = "event" in members ? { event: "null" } : {};
   const sound = {
-    key: "7", ticks: "0", us: "0", id: "5", ptr: "536875008", by: '"thread"', name: '"pump"', gone: "false", field: "16", info: "[1,2,3,4]",
+    key: "7", ticks: "0", us: "0", id: "5", ...own, ptr: "536875008", by: '"thread"', name: '"pump"', gone: "false", field: "16", info: "[1,2,3,4]",
   };
   const texts = Object.entries({ ...sound, ...members }).map(([member, text]) => `"${member}":${text}`);
   return `{${texts.join(",")}}`;
@@ -32,10 +41,11 @@ const unquotedKeys = (text) => text.replace(/"key":"([0-9]+)"/g, '"key":$1');
 function printed(event) {
   const number = (value) => (value < 2n ** 53n ? `${value}` : `"${value}"`);
   const escape = (character) => (/["\\]/.test(character) ? `\\${character}` : `\\u00${character.charCodeAt(0).toString(16).padStart(2, "0")}`);
-  const name = event.name === null ? "null" : `"${event.name.replace(/["\\]|[^ -~]/g, escape)}"`;
+  const text = (name) => (name === null ? "null" : `"${name.replace(/["\\]|[^ -~]/g, escape)}"`);
+  const own = "event" in event ? { event: text(event.event) } : {};
   return line({
-    key: number(event.key), ticks: number(event.ticks), us: number(event.us), id: number(event.id), ptr: number(event.ptr),
-    by: `"${event.by}"`, name, gone: `${event.gone}`, field: number(event.field), info: `[${event.info.map(number).join(",")}]`,
+    key: number(event.key), ticks: number(event.ticks), us: number(event.us), id: number(event.id), ...own, ptr: number(event.ptr),
+    by: `"${event.by}"`, name: text(event.name), gone: `${event.gone}`, field: number(event.field), info: `[${event.info.map(number).join(",")}]`,
   });
 }
 
@@ -74,10 +84,24 @@ test("the three lines of the whole case", () => {
   assert.deepEqual(DOCUMENT_LINES.map(readLine), events);
 });
 
+test("the three lines of the whole case with a name file", () => {
+  const events = readListing(listing(...NAMED_LINES));
+  assert.deepEqual(events.map(({ event }) => event), ["start", null, null]);
+  assert.deepEqual(events.map(({ name }) => name), ["pump", "pump", "valve"]);
+  assert.deepEqual(events[0], {
+    key: 9007199254740992n, keyText: "9007199254740992", ticks: 0n, us: 0n, id: 5, event: "start", ptr: 536875008,
+    by: "thread", name: "pump", gone: false, field: 16, info: [1, 2, 3, 4],
+  });
+  assert.deepEqual(NAMED_LINES.map(readLine), events);
+  assert.deepEqual(DOCUMENT_LINES.map((each) => "event" in readLine(each)), [false, false, false]);
+});
+
 test("an event cannot be changed", () => {
   const event = readLine(DOCUMENT_LINES[0]);
   assert.throws(() => { event.key = 1n; }, TypeError);
   assert.throws(() => { event.gone = true; }, TypeError);
+  assert.throws(() => { event.event = "start"; }, TypeError);
+  assert.throws(() => { readLine(NAMED_LINES[0]).event = "stop"; }, TypeError);
   assert.throws(() => { event.info[0] = 9; }, TypeError);
 });
 
@@ -179,15 +203,87 @@ test("names byte by byte", () => {
   assert.equal(readLine(line({ name: '""' })).name, "");
 });
 
-test("every other form of a name is refused", () => {
-  for (const text of ["\\n", "\\/", "\\b", "\\t", "\\u000A", "\\u0100", "\\ud800", "\\u00", "\\U000a", "\\x0a"]) {
-    refuses(line({ name: `"${text}"` }), /escape other than/);
+// A line with a name in either place: the event's own, or the thread's in a line that was made with a name file.
+const WITH_A_FILE = [["event", (text) => line({ event: text })], ["name", (text) => line({ event: "null", name: text })]];
+
+test("with a name file, names byte by byte, zeros too", () => {
+  for (const [member, lineOf] of WITH_A_FILE) {
+    for (let byte = 0; byte < 256; byte += 1) {
+      const character = String.fromCharCode(byte);
+      const escape = `\\u00${byte.toString(16).padStart(2, "0")}`;
+      const plain = byte >= 0x20 && byte <= 0x7e;
+      if (plain) refuses(lineOf(`"${escape}"`), /not printed so/);
+      else assert.equal(readLine(lineOf(`"${escape}"`))[member], character);
+      if (!plain) refuses(lineOf(`"${character}"`), /must be escaped/);
+      else if (character !== '"' && character !== "\\") assert.equal(readLine(lineOf(`"${character}"`))[member], character);
+    }
+    assert.equal(readLine(lineOf('"A\\"\\u000a\\u0000"'))[member], 'A"\n\0');
+    assert.equal(readLine(lineOf('""'))[member], "");
+    assert.equal(readLine(lineOf('"null"'))[member], "null");
+    assert.equal(readLine(lineOf("null"))[member], null);
   }
-  for (const text of ["\u0100", "\u20ac", "\ud83d\ude00", "\ud800"]) refuses(line({ name: `"${text}"` }), /must be escaped/);
-  for (const text of ["Null", "pump", "0", "'pump'", ""]) refuses(line({ name: text }), /expected "/);
-  refuses(line().slice(0, line().indexOf('mp",')), /the name is cut off/);
-  assert.equal(readLine(line({ name: `"${"\\\\".repeat(64)}"` })).name.length, 64);
-  refuses(line({ name: `"${"p".repeat(65)}"` }), /longer than 64/);
+});
+
+test("every other form of a name is refused", () => {
+  for (const lineOf of [(text) => line({ name: text }), ...WITH_A_FILE.map(([, lineOf]) => lineOf)]) {
+    for (const text of ["\\n", "\\/", "\\b", "\\t", "\\u000A", "\\u0100", "\\ud800", "\\u00", "\\U000a", "\\x0a"]) {
+      refuses(lineOf(`"${text}"`), /escape other than/);
+    }
+    for (const text of ["\u0100", "\u20ac", "\ud83d\ude00", "\ud800"]) refuses(lineOf(`"${text}"`), /must be escaped/);
+    for (const text of ["Null", "pump", "0", "'pump'", "", "[]", "{}", "undefined", "false"]) refuses(lineOf(text), /expected "/);
+  }
+  for (const text of [line(), line({ event: '"pump"' })]) refuses(text.slice(0, text.indexOf('mp",')), /the name is cut off/);
+});
+
+test("names on both sides of their limits", () => {
+  const named = (length, character = "p") => `"${character.repeat(length)}"`;
+  for (const character of ["\\\\", "\\u00ff"]) assert.equal(readLine(line({ name: named(64, character) })).name.length, 64);
+  refuses(line({ name: named(65) }), /longer than 64/);
+  refuses(line({ name: named(65, "\\u00ff") }), /longer than 64/);
+  for (const [member, lineOf] of WITH_A_FILE) {
+    for (const length of [64, 65, LONGEST - 1, LONGEST]) assert.equal(readLine(lineOf(named(length)))[member].length, length);
+    for (const character of ["\\u0000", "\\\\"]) assert.equal(readLine(lineOf(named(LONGEST, character)))[member].length, LONGEST);
+    refuses(lineOf(named(LONGEST + 1)), /longer than 65528/);
+    refuses(lineOf(named(LONGEST + 1, "\\u00ff")), /longer than 65528/);
+  }
+});
+
+test("only a name that a dump can have is gone", () => {
+  const gone = (name) => line({ event: "null", name, gone: "true" });
+  for (const name of ['"pump"', '""', `"${"p".repeat(64)}"`, '"\\u0001"']) assert.equal(readLine(gone(name)).gone, true);
+  for (const name of [`"${"p".repeat(65)}"`, '"\\u0000"', '"pump\\u0000"']) {
+    refuses(gone(name), /no dump has such a name, so it is not gone: expected false/, columnOf(gone(name), "true"));
+    assert.equal(readLine(line({ event: "null", name })).gone, false);
+  }
+  refuses(gone("null"), /there is no name, so none is gone/);
+});
+
+test("the event's own name stands behind the id, once, whatever the context", () => {
+  const member = ',"event":"start"';
+  const without = line();
+  const named = without.replace(',"ptr"', `${member},"ptr"`);
+  assert.equal(readLine(named).event, "start");
+  for (const before of ['"key"', ',"ticks"', ',"us"', ',"id"', ',"by"', ',"name"', ',"gone"', ',"field"', ',"info"', "]}", "}"]) {
+    refuses(without.replace(before, `${member}${before}`), /expected|plain digits/);
+    refuses(named.replace(before, `${member}${before}`), /expected|plain digits/);
+  }
+  refuses(named.replace(member, member + member), /expected ,"ptr"/);
+  for (const other of ['"Event"', "event", "'event'", '"event "', '"own"']) refuses(named.replace('"event"', other), /expected ,"ptr"/);
+  refuses(named.replace('"event":', '"event" :'), /expected ,"ptr"/);
+  const init = { ptr: "4042322160", by: '"init"', name: "null" };
+  assert.equal(readLine(line({ ...init, event: '"start"' })).event, "start");
+  refuses(line({ ...init, event: '"start"', name: '"pump"' }), /init event has no name/);
+  assert.equal(readLine(line({ ptr: "4294967295", by: '"isr"', event: '"start"' })).event, "start");
+});
+
+test("all lines of a listing tell their event's name, or none does", () => {
+  const [bare, named, none] = [{}, { event: '"start"' }, { event: "null" }].map((own) => (key) => line({ key, ...own }));
+  assert.equal(readListing(listing(named("7"), none("8"), named("9"))).length, 3);
+  assert.equal(readListing(listing(bare("7"), bare("8"), bare("9"))).length, 3);
+  refusesListing(listing(named("7"), none("8"), bare("9")), 3, /the line has no "event", and the first line has one/, 1);
+  refusesListing(listing(none("7"), bare("8")), 2, /the line has no "event"/, 1);
+  refusesListing(listing(bare("7"), none("8")), 2, /the line has an "event", and the first line has none/, 1);
+  refusesListing(listing(bare("7"), bare("8"), named("9")), 3, /the line has an "event"/, 1);
 });
 
 test("the context is that of the pointer, and init has no name", () => {
@@ -245,16 +341,19 @@ test("gone stands behind the name, once", () => {
 });
 
 test("missing, repeated, reordered and extra members are refused", () => {
-  const members = line().slice(1, -1).match(/"[a-z]+":(?:\[[^\]]*\]|[^,]*)/g);
-  assert.equal(`{${members.join(",")}}`, line());
-  for (let index = 0; index < members.length; index += 1) {
-    const without = members.filter((_, other) => other !== index);
-    const put = (at, member) => `{${[...without.slice(0, at), member, ...without.slice(at)].join(",")}}`;
-    refuses(`{${without.join(",")}}`, /expected/);
-    for (let at = 0; at < members.length; at += 1) {
-      if (at !== index) refuses(put(at, members[index]), /expected/);
-      refuses(put(at, `${members[index]},"more":1`), /expected/);
-      refuses(put(at, `${members[index]},${members[index]}`), /expected/);
+  for (const text of [line(), line({ event: '"start"' })]) {
+    const members = text.slice(1, -1).match(/"[a-z]+":(?:\[[^\]]*\]|[^,]*)/g);
+    assert.equal(`{${members.join(",")}}`, text);
+    for (let index = 0; index < members.length; index += 1) {
+      const without = members.filter((_, other) => other !== index);
+      const put = (at, member) => `{${[...without.slice(0, at), member, ...without.slice(at)].join(",")}}`;
+      // A line may lack the event's own name, and nothing else.
+      if (members[index] !== '"event":"start"') refuses(`{${without.join(",")}}`, /expected/);
+      for (let at = 0; at < members.length; at += 1) {
+        if (at !== index) refuses(put(at, members[index]), /expected/);
+        refuses(put(at, `${members[index]},"more":1`), /expected/);
+        refuses(put(at, `${members[index]},${members[index]}`), /expected/);
+      }
     }
   }
   for (const info of ["[]", "[1,2,3]", "[1,2,3,4,5]", "{}", "[1,2,3,4,]", "[1,2,3,[4]]"]) refuses(line({ info }), /expected|plain digits/);
@@ -275,7 +374,8 @@ test("text before, after or between, another text, a cut line and no text at all
 test("a line with one character changed, added or taken away is refused or says what it prints", () => {
   const characters = '0159"\\,:{}[]-+.eEu nflatrsA\u0000\n\u007f\u00e9\u0660\uff11';
   const lines = [
-    ...DOCUMENT_LINES, line({ gone: "true" }), line({ ptr: "4042322160", by: '"init"', name: "null" }),
+    ...DOCUMENT_LINES, ...NAMED_LINES, line({ gone: "true" }), line({ ptr: "4042322160", by: '"init"', name: "null" }),
+    line({ event: '"A\\"\\u0000"', name: '"\\u0000"' }), line({ event: '""', gone: "true" }),
     line({ name: '"A\\"\\u000a\\\\"', ticks: "9007199255", us: '"9007199255000000"' }),
   ];
   let accepted = 0;
@@ -327,7 +427,8 @@ test("a refusal in the place of a listing is told as one", () => {
   for (const text of ["1 0\n", "2 0\n", "15 0\n", "26 65488\n", "99 0\n", "26 999999999999999\n"]) assert.throws(() => readListing(text), isTold);
   // Also where a number of events is expected.
   assert.throws(() => readListing("11 3\n", { events: 0 }), refusal);
-  assert.throws(() => readListing("27 5\n"), { number: 27, place: 5, words: "a refusal that is not known here" });
+  assert.throws(() => readListing("27 5\n"), { number: 27, place: 5, words: /^the record at offset 5 of the name file / });
+  assert.throws(() => readListing("29 5\n"), { number: 29, place: 5, words: "a refusal that is not known here" });
   for (const text of ["11 3", "11", "11 3\r\n", " 11 3\n", "11  3\n", "11 3 \n", "011 3\n", "0 0\n", "11 03\n", "100 3\n", "-1 0\n", "11 3\n\n", "11 3\n11 3\n", "26 1e3\n"]) {
     refusesListing(text, 1, /expected|cut off/);
   }
@@ -384,6 +485,9 @@ test("a refusal tells where the line stops being one of the listing", () => {
   place(line({ name: '"pu\\n"' }), "\\n", /escape other than/);
   place(line({ gone: "1" }), '1,"field"', /expected true or false/);
   place(line({ name: `"${"p".repeat(65)}"` }), 'p","gone"', /longer than 64/);
+  place(line({ event: `"${"p".repeat(LONGEST + 1)}"` }), 'p","ptr"', /longer than 65528/);
+  place(line({ event: '"pu\\n"' }), "\\n", /escape other than/);
+  place(line({ event: "1" }), '1,"ptr"', /expected "/);
   refusesListing(listingOfKeys("7", "8").slice(0, -1), 2, /cut off/, line().length + 1);
   refusesListing(listingOfKeys("7", "9"), 2, /go up by one/, 1);
   refusesListing(listing(line(), line({ key: "8", ticks: "1.0" })), 2, /not plain digits/, columnOf(line(), '0,"us"'));
@@ -441,15 +545,17 @@ test("every line of the corpus is read, under the peer's key", () => {
   const peer = peerKeys();
   assert.equal(lines.length, peer.length);
   const ofListings = new Map();
-  const names = new Set();
+  const [names, owns] = [new Set(), new Set()];
   lines.forEach((each, index) => {
     const [kind, keyText] = peer[index];
     const event = readLine(each);
-    assert.match(kind, /^[al]$/);
+    assert.match(kind, /^[aAlL]$/);
+    assert.equal("event" in event, kind === kind.toUpperCase());
     assert.equal(event.keyText, keyText, `line ${index + 1} of the corpus`);
     assert.equal(event.key, BigInt(keyText));
     assert.equal(printed(event), each);
     names.add(event.name === null ? "none" : event.gone ? "gone" : "live");
+    if ("event" in event) owns.add(event.event === null ? "none" : "some");
     if (kind !== "a") return;
     assert.ok(!ofListings.has(event.key), `the key ${keyText} comes twice`);
     ofListings.set(event.key, each.startsWith('{"key":"') ? "quoted" : "bare");
@@ -457,20 +563,21 @@ test("every line of the corpus is read, under the peer's key", () => {
   assert.ok(ofListings.size >= FEWEST_CORPUS_KEYS, `only ${ofListings.size} keys of whole listings`);
   assert.deepEqual([...new Set(ofListings.values())].sort(), ["bare", "quoted"]);
   assert.deepEqual([...names].sort(), ["gone", "live", "none"]);
+  assert.deepEqual([...owns].sort(), ["none", "some"]);
 });
 
 test("every whole listing of the corpus is read as one and prints back", () => {
   const kinds = peerKeys().map(([kind]) => kind);
-  let count = 0;
+  const counts = { a: 0, A: 0 };
   for (const { before, lines } of corpusAnswers()) {
     const text = listing(...lines);
     assert.equal(before, `${text.length} 0`);
     const [kind, ...others] = kinds.splice(0, lines.length);
-    assert.ok(others.every((other) => other === "a" && kind === "a"), "only a whole listing has several lines");
-    if (kind !== "a") continue;
-    count += 1;
+    assert.ok(others.every((other) => other === kind && kind in counts), "only a whole listing has several lines");
+    if (!(kind in counts)) continue;
+    counts[kind] += 1;
     assert.equal(listing(...readListing(text).map(printed)), text);
   }
   assert.deepEqual(kinds, []);
-  assert.ok(count >= FEWEST_CORPUS_LISTINGS, `only ${count} whole listings`);
+  for (const count of Object.values(counts)) assert.ok(count >= FEWEST_CORPUS_LISTINGS, `only ${count} whole listings`);
 });

@@ -14,6 +14,10 @@ const CUT = kept("crates/lepsaino/data/cut.dump");
 // The lines of the whole case of docs/RULES.md.
 const LINES = kept("crates/lepsaino/stdout").toString("latin1");
 const READING = { rate: 3000000, unit: 8192, serial: 0 };
+// A record for the event 5 and one for the thread 0x20002000, 13 bytes each, and the lines that they make.
+const NAMES = Buffer.from("09000100" + "05000000" + "7374617274" + "09000200" + "00200020" + "76616c7665", "hex");
+const NAMED_LINES = LINES.replace('"id":5,', '"id":5,"event":"start",').replace('"id":1025,', '"id":1025,"event":null,')
+  .replace('"id":6,', '"id":6,"event":null,').replace('"name":null', '"name":"valve"');
 
 const moduleBytes = built("lepsaino.wasm");
 const library = await load(moduleBytes);
@@ -50,6 +54,98 @@ test("names, live, gone and none", () => {
   assert.deepEqual(library.event(changed(SAMPLE, 48, 1), 0).gone, true);
 });
 
+test("the whole case with a name file", () => {
+  assert.deepEqual(library.list(SAMPLE, READING, NAMES), { refusal: null, text: NAMED_LINES });
+  NAMED_LINES.match(/.*\n/g).forEach((line, position) => {
+    assert.deepEqual(library.line(SAMPLE, READING, position, NAMES), { refusal: null, text: line });
+    const { stamp, nameAt, filed, eventAt, refusal: none, ...event } = library.event(SAMPLE, position, NAMES);
+    const { key, keyText, us, ...listed } = readListing(NAMED_LINES)[position];
+    assert.deepEqual(event, listed);
+    assert.deepEqual({ nameAt, filed, eventAt }, { nameAt: [64, 64, 21][position], filed: position === 2, eventAt: [8, null, null][position] });
+  });
+  const found = { refusal: null, gone: false };
+  assert.deepEqual(library.findName(SAMPLE, 0x20001000, NAMES), { ...found, name: "pump", nameAt: 64, filed: false });
+  assert.deepEqual(library.findName(SAMPLE, 0x20002000, NAMES), { ...found, name: "valve", nameAt: 21, filed: true });
+  assert.deepEqual(library.findName(SAMPLE, 5, NAMES), { ...found, name: null, nameAt: null, filed: false });
+  assert.deepEqual(library.findName(changed(SAMPLE, 48, 1), 0x20001000, NAMES), { ...found, name: "pump", nameAt: 64, gone: true, filed: false });
+});
+
+test("an empty name file is a file, and none is none", () => {
+  const empty = NAMED_LINES.replace('"event":"start"', '"event":null').replace('"valve"', "null");
+  for (const names of [new Uint8Array(0), new ArrayBuffer(0)]) assert.equal(library.list(SAMPLE, READING, names).text, empty);
+  assert.equal(library.list(SAMPLE, READING, undefined).text, LINES);
+  assert.deepEqual(library.event(SAMPLE, 0, undefined), library.event(SAMPLE, 0));
+  const fields = (answer) => ["event", "eventAt", "filed"].filter((field) => field in answer);
+  assert.deepEqual(fields(library.event(SAMPLE, 0)), []);
+  assert.deepEqual(fields(library.event(SAMPLE, 0, new Uint8Array(0))), ["event", "eventAt", "filed"]);
+  assert.deepEqual(fields(library.findName(SAMPLE, 0)), []);
+});
+
+test("a name file is refused behind the dump and the reading, before the position", () => {
+  const cut = NAMES.subarray(0, 25);
+  const calls = [
+    [(dump, names) => library.list(dump, READING, names), 26, 18], [(dump, names) => library.line(dump, READING, 9, names), 26, 18],
+    [(dump, names) => library.event(dump, 9, names), 26, 18], [(dump, names) => library.findName(dump, 9, names), 26, 18],
+  ];
+  for (const [call, number, place] of calls) {
+    assert.deepEqual(call(SAMPLE, cut), refused(27, 13));
+    for (const length of [65537, 65538, 4000000]) assert.deepEqual(call(SAMPLE, new Uint8Array(length)), refused(2, 0));
+    assert.deepEqual(call(CUT, cut), refused(number, place));
+    assert.equal(call(SAMPLE, new Uint8Array(65536)).refusal?.number ?? 25, 25);
+  }
+  assert.deepEqual(library.list(SAMPLE, { ...READING, rate: 0 }, cut), refused(14, 0));
+  assert.deepEqual(library.line(SAMPLE, { ...READING, unit: 16777216 }, 9, cut), refused(15, 0));
+  assert.match(library.list(SAMPLE, READING, cut).refusal.words, /^the record at offset 13 of the name file runs past its end/);
+});
+
+test("a record is written into the bytes given, and no other byte changes", () => {
+  const names = new Uint8Array(NAMES.length + 2).fill(0xee);
+  const event = { kind: "event", number: 5, name: Buffer.from("start") };
+  const thread = { kind: "thread", number: 0x20002000n, name: Uint8Array.from(Buffer.from("valve")).buffer };
+  assert.deepEqual(library.writeName(names, 0, event), { refusal: null, length: 13 });
+  assert.deepEqual(names, Uint8Array.of(...NAMES.subarray(0, 13), ...Array(15).fill(0xee)));
+  assert.deepEqual(library.writeName(names.buffer, 13n, thread), { refusal: null, length: 13 });
+  assert.deepEqual(names, Uint8Array.of(...NAMES, 0xee, 0xee));
+  for (const [offset, number] of [[16, 16], [28, 16], [65523, 16], [65524, 28], [2n ** 64n - 1n, 28]]) assert.deepEqual(library.writeName(names, offset, event), refused(number, 0));
+  assert.deepEqual(names, Uint8Array.of(...NAMES, 0xee, 0xee));
+  assert.deepEqual(library.writeName(names, 15, { ...event, name: new Uint8Array(5) }), { refusal: null, length: 13 });
+  // The name may lie in the file itself.
+  assert.equal(library.writeName(names, 0, { ...event, name: names.subarray(8, 13) }).length, 13);
+  assert.deepEqual(names.subarray(0, 13), Uint8Array.from(NAMES.subarray(0, 13)));
+});
+
+test("the longest record, and longer bytes than a name file has", () => {
+  const names = new Uint8Array(100000).fill(0xee);
+  const longest = { kind: "thread", number: 0x20002000, name: new Uint8Array(65528).fill(0xff) };
+  assert.deepEqual(library.writeName(names, 1, longest), refused(28, 0));
+  for (const length of [65529, 65537, 4000000]) assert.deepEqual(library.writeName(names, 0, { ...longest, name: new Uint8Array(length) }), refused(28, 0));
+  assert.deepEqual(library.writeName(names.subarray(0, 65535), 0, longest), refused(16, 0));
+  assert.ok(names.every((byte) => byte === 0xee));
+  assert.deepEqual(library.writeName(names, 0, longest), { refusal: null, length: 65536 });
+  assert.ok(names.subarray(65536).every((byte) => byte === 0xee));
+  const called = "\u00ff".repeat(65528);
+  const file = names.subarray(0, 65536);
+  assert.equal(library.findName(SAMPLE, 0x20002000, file).name, called);
+  assert.equal(library.event(SAMPLE, 2, file).name, called);
+  assert.equal(readListing(library.list(SAMPLE, READING, file).text)[2].name, called);
+  assert.equal(library.writeName(new Uint8Array(8), 0, { ...longest, name: new Uint8Array(0) }).length, 8);
+});
+
+test("what is no name file and no record is an error", () => {
+  const event = { kind: "event", number: 5, name: Buffer.from("start") };
+  for (const other of [null, 7, "names", [9, 0], {}, { names: NAMES }, new Uint16Array(4)]) {
+    for (const call of [() => library.list(SAMPLE, READING, other), () => library.line(SAMPLE, READING, 0, other), () => library.event(SAMPLE, 0, other),
+                        () => library.findName(SAMPLE, 0, other), () => library.writeName(other, 0, event)]) {
+      assert.throws(call, { name: "TypeError", message: "the name file must be a Uint8Array or an ArrayBuffer" });
+    }
+    assert.throws(() => library.writeName(new Uint8Array(99), 0, { ...event, name: other }), /the name must be a Uint8Array/);
+  }
+  for (const kind of [undefined, null, 0, 1, "Event", "", ["event"], "toString"]) {
+    assert.throws(() => library.writeName(new Uint8Array(99), 0, { ...event, kind }), /the kind of a record must be "event" or "thread"/);
+  }
+  for (const record of [undefined, null, 7, {}]) assert.throws(() => library.writeName(new Uint8Array(99), 0, record), TypeError);
+});
+
 test("ticks, and all that a line has above 2^53, are BigInts", () => {
   assert.equal(library.event(SAMPLE, 1).ticks, 56n);
   const last = { rate: 1, unit: 16777215, serial: 2n ** 40n - 3n };
@@ -81,7 +177,7 @@ test("a refusal has its number, its place and both in words", () => {
 
 test("the words are those of the header's table, and every number has some", () => {
   const table = [...kept("include/lepsaino.h").toString().matchAll(/^ \* {1,2}(\d+)  (.+)$/gm)];
-  assert.equal(table.length, 26);
+  assert.equal(table.length, 28);
   table.forEach(([, number, words], index) => {
     assert.equal(Number(number), index + 1);
     assert.equal(refusalOf(index + 1, 65536).words, words.replace(/\bN\b/, "65536"));
@@ -95,6 +191,8 @@ test("a number out of range is an error, and none is cut", () => {
     serial: [64, (serial) => library.list(SAMPLE, { ...READING, serial })],
     position: [64, (position) => library.event(SAMPLE, position)],
     pointer: [32, (pointer) => library.findName(SAMPLE, pointer)],
+    offset: [64, (offset) => library.writeName(new Uint8Array(99), offset, { kind: "event", number: 5, name: NAMES })],
+    number: [32, (number) => library.writeName(new Uint8Array(99), 0, { kind: "thread", number, name: NAMES })],
   };
   for (const [name, [bits, call]] of Object.entries(calls)) {
     const most = 2n ** BigInt(bits) - 1n;
@@ -153,6 +251,28 @@ test("the longest lines have room", () => {
   assert.equal(text, lines.join(""));
 });
 
+/** A full ring whose every event has an own name of so many bytes that take six in the text. */
+function longOwnNames(length) {
+  const names = new Uint8Array(8 + length);
+  assert.equal(library.writeName(names, 0, { kind: "event", number: 0xffffffff, name: new Uint8Array(length).fill(0xff) }).length, 8 + length);
+  return names;
+}
+
+test("with a name file the longest line has room, and a listing that has none is refused", () => {
+  const dump = longestLines();
+  const reading = { rate: 1, unit: 16777215, serial: 2n ** 40n - 2044n };
+  const [short, long] = [longOwnNames(300), longOwnNames(65528)];
+  const own = (length) => `"event":"${"\\u00ff".repeat(length)}"`;
+  const { text } = library.list(dump, reading, short);
+  assert.equal(text, library.list(dump, reading).text.replaceAll('"id":4294967295', `"id":4294967295,${own(300)}`));
+  assert.ok(text.length > 4000000);
+  assert.deepEqual(library.list(dump, reading, long), refused(16, 0));
+  for (const position of [0, 2043]) {
+    const plain = library.line(dump, reading, position).text;
+    assert.equal(library.line(dump, reading, position, long).text, plain.replace('"id":4294967295', `"id":4294967295,${own(65528)}`));
+  }
+});
+
 test("mending gives a copy and six counts", () => {
   const { copy, counts, refusal } = library.mend(CUT);
   assert.equal(refusal, null);
@@ -181,7 +301,7 @@ test("pieces, however they are cut, give what the check gives", () => {
 
 test("the types name the calls and what they give", () => {
   const types = kept("page/library.d.mts").toString();
-  const named = (type) => [...types.match(new RegExp(`interface ${type} [^]*?\\n}`))[0].matchAll(/^  (?:readonly )?(\w+)[:(]/gm)].map(([, name]) => name);
+  const named = (type) => [...types.match(new RegExp(`interface ${type} [^]*?\\n}`))[0].matchAll(/^  (?:readonly )?(\w+)\??[:(]/gm)].map(([, name]) => name);
   const given = ({ refusal, ...found }) => Object.keys(found).sort();
   const isNamed = (type, names, more = []) => assert.deepEqual([...named(type), ...more].sort(), names);
   const methods = (object) => Object.getOwnPropertyNames(Object.getPrototypeOf(object)).filter((name) => name !== "constructor").sort();
@@ -189,8 +309,9 @@ test("the types name the calls and what they give", () => {
   isNamed("Pieces", methods(library.begin()));
   isNamed("Checked", given(library.check(SAMPLE)));
   isNamed("Text", given(library.list(SAMPLE, READING)));
-  isNamed("Name", given(library.findName(SAMPLE, 1)));
-  isNamed("DumpEvent", given(library.event(SAMPLE, 0)), named("Name"));
+  isNamed("Name", given(library.findName(SAMPLE, 1, NAMES)));
+  isNamed("DumpEvent", given(library.event(SAMPLE, 0, NAMES)), named("Name"));
+  isNamed("Written", given(library.writeName(new Uint8Array(8), 0, { kind: "event", number: 5, name: new Uint8Array(0) })));
   isNamed("Mended", given(library.mend(SAMPLE)));
   isNamed("Counts", given(library.mend(SAMPLE).counts));
   isNamed("Refusal", given(library.check(CUT).refusal));
@@ -237,7 +358,8 @@ test("bytes of another page are bytes, and bytes that were moved away or lie abo
   const short = new Uint8Array(new ArrayBuffer(168, { maxByteLength: 168 }), 100);
   short.buffer.resize(50);
   for (const gone of [moved, moved.buffer, short]) {
-    for (const call of [() => library.check(gone), () => library.mend(gone), () => library.begin().feed(gone)]) assert.throws(call, TypeError);
+    const calls = [() => library.check(gone), () => library.mend(gone), () => library.begin().feed(gone), () => library.list(SAMPLE, READING, gone)];
+    for (const call of calls) assert.throws(call, TypeError);
   }
   class Longer extends Uint8Array { get length() { return 168; } }
   library.check(SAMPLE);
@@ -293,10 +415,14 @@ function loadedAnswerer(raw) {
   return {
     check: (dump) => library.check(dump),
     begin: () => library.begin(),
-    event: (dump, position) => library.event(dump, position),
-    findName: (dump, pointer) => library.findName(dump, pointer),
-    line: (dump, reading, position, room) => within(room, library.line(dump, reading, position), ({ text }) => text.length),
-    list: (dump, reading, room) => within(room, library.list(dump, reading), ({ text }) => text.length),
+    event: (dump, position, names) => library.event(dump, position, names),
+    findName: (dump, pointer, names) => library.findName(dump, pointer, names),
+    line: (dump, reading, position, room, names) => within(room, library.line(dump, reading, position, names), ({ text }) => text.length),
+    list: (dump, reading, room, names) => within(room, library.list(dump, reading, names), ({ text }) => text.length),
+    writeName: (names, offset, thread, number, name) => {
+      const { refusal, length } = library.writeName(names, offset, { kind: thread === 0 ? "event" : "thread", number, name });
+      return { refusal, value: length };
+    },
     mend: (dump, room) => within(room, library.mend(dump), ({ copy }) => copy.length),
     format: (buffer, format) => raw.format(buffer, format),
     record: (buffer, slot) => raw.record(buffer, slot),

@@ -5,7 +5,7 @@ import { CASES, CORPUS, built, kept } from "./built.mjs";
 import { RawAnswerer, firstDifference } from "./raw.mjs";
 import { repliesOf } from "./replies.mjs";
 
-const MEMORY_SIZE = 2 * 1024 * 1024;
+const MEMORY_SIZE = 8 * 1024 * 1024;
 const OPTIMIZED = { level: "-O3", file: "lepsaino.wasm" };
 const LEVELS = [OPTIMIZED, { level: "-O0", file: "lepsaino-O0.wasm" }];
 
@@ -13,7 +13,7 @@ const LARGEST = 2n ** 64n - 1n;
 const FIRST_IN_QUOTES = 2n ** 53n;
 const SEEDED_NUMBERS = 3000;
 
-const STACK_SIZE = 65536;
+const STACK_SIZE = 196608;
 const ANSWER_SIZE = 64;
 const READING = { rate: 3000000, unit: 8192, serial: 0n };
 
@@ -62,7 +62,7 @@ for (const { level, file } of LEVELS) {
     assert.deepEqual(others, []);
   });
 
-  test(`${level}: the memory has 2 MB and does not grow`, () => {
+  test(`${level}: the memory has 8 MB and does not grow`, () => {
     const { memory } = exportsOf(moduleIn(file));
     assert.equal(memory.buffer.byteLength, MEMORY_SIZE);
     assert.throws(() => memory.grow(1), RangeError);
@@ -131,10 +131,20 @@ function stackOf(each) {
   return stack;
 }
 
+/** How many bytes of stack a call takes by the header: for each call that it names, and for the others. */
+function stackTold() {
+  const [, sentence] = /The stack has room: ([^.]+)\./.exec(header());
+  const clauses = [...sentence.matchAll(/(\d+) KB for ([^,]+)/g)];
+  const named = (clause) => [...clause.matchAll(/\blepsaino_(\w+)/g)].map(([, name]) => name);
+  const told = new Map(clauses.flatMap(([, most, clause]) => named(clause).map((name) => [name, 1000 * most])));
+  const [, others] = clauses.find(([, , clause]) => clause === "any other call");
+  return (name) => told.get(name) ?? 1000 * others;
+}
+
 test("optimized, no call takes more stack than the header says", (context) => {
-  const [, ofListing, ofOthers] = /The stack has room: (\d+) KB for lepsaino_listing, (\d+) KB for any other call/.exec(header());
+  const told = stackTold();
   for (const [name, used] of stackOf(OPTIMIZED)) {
-    const most = 1000 * (name === "listing" ? ofListing : ofOthers);
+    const most = told(name);
     assert.ok(used <= most, `lepsaino_${name} took ${used} bytes of stack, and the header says ${most}`);
   }
   for (const each of LEVELS) context.diagnostic(`${each.level}, bytes of stack: ${[...stackOf(each)].map((used) => used.join(" ")).join(", ")}`);
@@ -189,14 +199,40 @@ test("a byte changed beside the output or the buffer, or of the name, is found o
   assert.throws(() => nameTouching.register(soundDump(), object, Buffer.from("pump")), /lepsaino_register changed the byte/);
 });
 
+test("a byte changed of a name file or beside it is found out", () => {
+  const names = Buffer.from("0900010005000000" + "7374617274", "hex");
+  const lineTouching = (placeOf) =>
+    answererThatTouches("lepsaino_line_with_names", (answer, dump, length, rate, serial, position, file) => placeOf(file)).line(soundDump(), READING, 0n, 200, names);
+  const eventTouching = (placeOf) =>
+    answererThatTouches("lepsaino_event_with_names", (answer, dump, length, file) => placeOf(file)).event(soundDump(), 0n, names);
+  for (const placeOf of [(file) => file - 1, (file) => file, (file) => file + names.length - 1, (file) => file + names.length]) {
+    assert.throws(() => lineTouching(placeOf), /lepsaino_line_with_names changed the byte/);
+    assert.throws(() => eventTouching(placeOf), /lepsaino_event_with_names changed the byte/);
+  }
+  const writeTouching = (placeOf) => answererThatTouches("lepsaino_write_name", placeOf).writeName(Buffer.alloc(20), 0n, 0, 5, Buffer.from("start"));
+  for (const placeOf of [(answer, file) => file - 1, (answer, file, length) => file + Number(length), (answer, file, length, offset, thread, number, name) => name]) {
+    assert.throws(() => writeTouching(placeOf), /lepsaino_write_name changed the byte/);
+  }
+});
+
+for (const each of LEVELS) {
+  test(`${each.level}: an event's record where thread is 0, and a thread's where it is any other number`, () => {
+    for (const [thread, kind] of [[0, 1], [1, 2], [2, 2], [256, 2], [65536, 2], [0x80000000, 2], [0xffffffff, 2]]) {
+      const names = Buffer.alloc(16, 0xee);
+      assert.deepEqual(answererOf(each).writeName(names, 3n, thread, 0x20002000, Buffer.from("stop")), { refusal: null, value: 12n });
+      assert.equal(names.toString("hex"), `eeeeee08000${kind}000020002073746f70ee`);
+    }
+  });
+}
+
 test("the stack that a call takes is measured to the byte", () => {
   const answererTaking = (size) => answererThatTouches("lepsaino_check", () => STACK_SIZE - size);
-  for (const size of [2000, 2001, 20000]) {
+  for (const size of [2000, 2001, 20000, 120000]) {
     const answerer = answererTaking(size);
     for (const dump of [soundDump(), soundDump()]) answerer.check(dump);
     assert.equal(answerer.stack.get("check"), size);
   }
-  const deep = answererTaking(40000);
+  const deep = answererTaking(160000);
   deep.check(soundDump());
   assert.throws(() => deep.stack, /more stack than was looked at/);
 });

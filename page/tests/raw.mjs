@@ -1,10 +1,11 @@
 // The module's calls, each made as hostilely as the header for C allows.
 
-const STACK_SIZE = 65536;
+const STACK_SIZE = 196608;
 // Looked at after each call is the upper part of the stack, more than any call is known to take; the rest when all is over.
-const LOOKED_AT_FROM = STACK_SIZE - 24 * 1024;
-const LONGEST_NAME = 1024;
-const LONGEST_DUMP = 65537;
+const LOOKED_AT_FROM = STACK_SIZE - 144 * 1024;
+// A dump, a buffer, a name file or a name: at most two to a call, each with its margins.
+const LONGEST_LENT = 70000;
+const MOST_LENT = 2;
 const LONGEST_OUTPUT = 1599000;
 const STATE_SIZE = 176;
 const MARGIN = 64;
@@ -16,14 +17,14 @@ const GUARD = Buffer.from(Array.from({ length: MARGIN }, (none, index) => (index
 // The answers' sizes, and the padding between the fields behind the place, which may hold anything.
 const ANSWER = { size: 24, padding: [] };
 const CHECKED = { size: 64, padding: [38, 39] };
-const EVENT = { size: 80, padding: [] };
+const EVENT = { size: 104, padding: [84, 85, 86, 87] };
 const FOUND = { size: 40, padding: [20, 21, 22, 23] };
 const MENDED = { size: 72, padding: [] };
 const BEHIND_PLACE = 16;
 
 const ORDERS = [false, true];
 const CONTEXTS = [undefined, "init", "isr", "thread"];
-const [NAMELESS, LIVE, GONE] = [0, 1, 2];
+const [NAMELESS, LIVE, GONE, FILED] = [0, 1, 2, 3];
 
 /** The first place from a start on at which two stretches of bytes differ, or else their end. Found by halving: whole stretches are compared fast. */
 export function firstDifference(one, other, start = 0, end = Math.min(one.length, other.length)) {
@@ -36,6 +37,9 @@ export function firstDifference(one, other, start = 0, end = Math.min(one.length
   }
   return same;
 }
+
+/** Each of these is another call where a name file is given. */
+const callFor = (name, names) => (names === undefined ? name : `${name}_with_names`);
 
 const aligned = (at) => Math.ceil(at / 16) * 16;
 
@@ -57,7 +61,7 @@ class RawPieces {
 
 /**
  * The calls that an instance of the module exports, with answers in the form of library.mjs. Before each call the stack, the
- * room around the structs, and 64 bytes on each side of the dump and of the output are set to known bytes. A call that changes one of them, or a
+ * room around the structs, and 64 bytes on each side of all other bytes that are lent are set to known bytes. A call that changes one of them, or a
  * byte that is lent to be read, or gives an answer that the header rules out, throws; bytes changed past the output are counted.
  */
 export class RawAnswerer {
@@ -70,11 +74,10 @@ export class RawAnswerer {
   // What the next call is lent: the places that it may change, and where the last of it ends.
   #changing;
   #end;
-  // The places in memory, in their order.
+  // The places in memory, in their order: bytes that are lent lie one behind the other, the dump or the buffer first.
   #answer;
   #struct;
-  #name;
-  #dump;
+  #first;
   #out;
 
   constructor(exports) {
@@ -85,9 +88,8 @@ export class RawAnswerer {
     // No better aligned than C asks: structs to 8 bytes, bytes not at all.
     this.#answer = aligned(base) + 2 * MARGIN + 8;
     this.#struct = this.#answer + STATE_SIZE + MARGIN;
-    this.#name = this.#struct + STATE_SIZE + MARGIN + 1;
-    this.#dump = this.#name + LONGEST_NAME + 2 * MARGIN;
-    this.#out = this.#dump + LONGEST_DUMP + 2 * MARGIN + 1;
+    this.#first = this.#struct + STATE_SIZE + 2 * MARGIN + 1;
+    this.#out = this.#first + MOST_LENT * (LONGEST_LENT + 2 * MARGIN) + 1;
     if (this.#out + LONGEST_OUTPUT + MARGIN > this.#bytes.length) throw new Error("the module's memory is too small for the longest output");
     this.#before = Buffer.alloc(this.#out);
   }
@@ -102,27 +104,28 @@ export class RawAnswerer {
 
   #freshen() {
     this.#bytes.fill(POISON[0], this.#lastLowest, STACK_SIZE);
-    this.#bytes.fill(POISON[0], this.#answer - MARGIN, this.#dump);
+    this.#bytes.fill(POISON[0], this.#answer - MARGIN, this.#first - MARGIN);
     this.#changing = [];
-    this.#end = this.#dump;
+    this.#end = this.#first - MARGIN;
   }
 
   #lendToRead(bytes) {
-    this.#end = this.#dump + bytes.length + MARGIN;
-    this.#bytes.set(GUARD, this.#dump - MARGIN);
-    this.#bytes.set(bytes, this.#dump);
-    this.#bytes.set(GUARD, this.#dump + bytes.length);
-    return [bytes.length === 0 ? 0 : this.#dump, BigInt(bytes.length)];
+    const place = this.#end + MARGIN;
+    this.#end = place + bytes.length + MARGIN;
+    if (this.#end > this.#out - MARGIN) throw new Error(`there is no room to lend ${bytes.length} bytes`);
+    this.#bytes.set(GUARD, place - MARGIN);
+    this.#bytes.set(bytes, place);
+    this.#bytes.set(GUARD, place + bytes.length);
+    return [bytes.length === 0 ? 0 : place, BigInt(bytes.length)];
   }
 
   #lendToChange(bytes) {
-    this.#changing.push([this.#dump, bytes.length]);
+    this.#changing.push([this.#end + MARGIN, bytes.length]);
     return this.#lendToRead(bytes);
   }
 
-  #lendName(bytes) {
-    this.#bytes.set(bytes, this.#name);
-    return [bytes.length === 0 ? 0 : this.#name, BigInt(bytes.length)];
+  #lendNames(names) {
+    return names === undefined ? [] : this.#lendToRead(names);
   }
 
   /** Room for so many bytes: dots, and more behind them. */
@@ -147,13 +150,12 @@ export class RawAnswerer {
     this.#lowest.set(name, this.#lastLowest);
   }
 
-  /** From the constants behind the stack to the guard behind the dump, only what was lent to be changed may have changed. */
+  /** From the constants behind the stack to the last guard, only what was lent to be changed may have changed. */
   #lookAround(name) {
     for (const [at, size] of this.#changing) this.#bytes.copy(this.#before, at, at, at + size);
     const at = firstDifference(this.#bytes, this.#before, STACK_SIZE, this.#end);
     if (at === this.#end) return;
-    const places = `the answer is at ${this.#answer}, the name at ${this.#name}, the dump at ${this.#dump}`;
-    throw new Error(`lepsaino_${name} changed the byte at ${at}: ${places}`);
+    throw new Error(`lepsaino_${name} changed the byte at ${at}: the answer is at ${this.#answer}, the first bytes lent are at ${this.#first}`);
   }
 
   /** Makes a call on what is lent to it, and looks at what it must leave alone. */
@@ -218,18 +220,33 @@ export class RawAnswerer {
     };
   }
 
-  /** A name by the places of its kind, its start and its length. */
-  #named(buffer, kindAt, startAt, lengthAt) {
-    const kind = this.#oneOf([NAMELESS, LIVE, GONE], kindAt);
+  /** A name by the places of its kind, its start and its length, as a part of the dump or of the name file. */
+  #named(dump, names, kinds, [kindAt, startAt, lengthAt]) {
+    const kind = this.#oneOf(kinds, kindAt);
     const [start, length] = [this.#long(startAt), this.#long(lengthAt)];
     if (kind === NAMELESS && (start !== 0n || length !== 0n)) throw new Error("there is no name, and its place or its length is not 0");
-    if (kind === NAMELESS) return { name: null, gone: false, nameAt: null };
-    if (start + length > BigInt(buffer.length)) throw new Error("a name lies outside of the dump");
-    const nameAt = Number(start);
-    return { name: this.#bytes.latin1Slice(this.#dump + nameAt, this.#dump + nameAt + Number(length)), gone: kind === GONE, nameAt };
+    if (kind === NAMELESS) return { kind, text: null, at: null };
+    const source = kind === FILED ? names : dump;
+    if (source === undefined || start + length > BigInt(source.length)) throw new Error("a name lies outside of the dump and of the name file");
+    const at = Number(start);
+    return { kind, text: source.latin1Slice(at, at + Number(length)), at };
   }
 
-  #shownEvent(buffer) {
+  /** A thread's name; without a name file none can lie there. */
+  #threadName(dump, names, places) {
+    const kinds = names === undefined ? [NAMELESS, LIVE, GONE] : [NAMELESS, LIVE, GONE, FILED];
+    const { kind, text, at } = this.#named(dump, names, kinds, places);
+    return { name: text, gone: kind === GONE, nameAt: at, filed: kind === FILED };
+  }
+
+  /** An event's own name lies in the name file; without one its three fields are 0. */
+  #ownName(names) {
+    const kinds = names === undefined ? [NAMELESS] : [NAMELESS, undefined, undefined, FILED];
+    const { text, at } = this.#named(undefined, names, kinds, [80, 88, 96]);
+    return names === undefined ? {} : { event: text, eventAt: at };
+  }
+
+  #shownEvent(dump, names) {
     return {
       ptr: this.#word(16),
       field: this.#word(20),
@@ -238,7 +255,8 @@ export class RawAnswerer {
       info: [this.#word(32), this.#word(36), this.#word(40), this.#word(44)],
       ticks: this.#long(48),
       by: this.#oneOf(CONTEXTS, 56),
-      ...this.#named(buffer, 60, 64, 72),
+      ...this.#threadName(dump, names, [60, 64, 72]),
+      ...this.#ownName(names),
     };
   }
 
@@ -272,17 +290,17 @@ export class RawAnswerer {
     return { ...answer, bytes, changed };
   }
 
-  #askForText(name, buffer, { rate, unit, serial }, position, room) {
+  #askForText(name, dump, { rate, unit, serial }, position, room, names) {
     const words = [BigInt(rate) | (BigInt(unit) << 32n), serial, ...position];
-    const lend = () => [...this.#lendToRead(buffer), ...words, ...this.#lendRoom(room)];
-    const { refusal, bytes, changed } = this.#askForOutput(name, ANSWER, room, lend, () => ({}));
+    const lend = () => [...this.#lendToRead(dump), ...words, ...this.#lendNames(names), ...this.#lendRoom(room)];
+    const { refusal, bytes, changed } = this.#askForOutput(callFor(name, names), ANSWER, room, lend, () => ({}));
     return refusal ? { refusal, changed } : { refusal, text: bytes.latin1Slice(), changed };
   }
 
-  /** A call that changes the buffer where it accepts. */
+  /** A call that changes the buffer, or the name file, where it accepts. */
   #askToChange(name, buffer, lend) {
     const answer = this.#ask(name, ANSWER, () => [...this.#lendToChange(buffer), ...lend()], () => ({ value: this.#long(16) }));
-    buffer.set(this.#bytes.subarray(this.#dump, this.#dump + buffer.length));
+    buffer.set(this.#bytes.subarray(this.#first, this.#first + buffer.length));
     return answer;
   }
 
@@ -316,20 +334,26 @@ export class RawAnswerer {
     return this.#ask("finish", CHECKED, () => [this.#lendState(state)], () => this.#checked());
   }
 
-  event(dump, position) {
-    return this.#ask("event", EVENT, () => [...this.#lendToRead(dump), position], () => this.#shownEvent(dump));
+  event(dump, position, names) {
+    const lend = () => [...this.#lendToRead(dump), ...this.#lendNames(names), position];
+    return this.#ask(callFor("event", names), EVENT, lend, () => this.#shownEvent(dump, names));
   }
 
-  findName(dump, pointer) {
-    return this.#ask("find_name", FOUND, () => [...this.#lendToRead(dump), pointer], () => this.#named(dump, 16, 24, 32));
+  findName(dump, pointer, names) {
+    const lend = () => [...this.#lendToRead(dump), ...this.#lendNames(names), pointer];
+    return this.#ask(callFor("find_name", names), FOUND, lend, () => this.#threadName(dump, names, [16, 24, 32]));
   }
 
-  line(dump, reading, position, room) {
-    return this.#askForText("line", dump, reading, [position], room);
+  line(dump, reading, position, room, names) {
+    return this.#askForText("line", dump, reading, [position], room, names);
   }
 
-  list(dump, reading, room) {
-    return this.#askForText("listing", dump, reading, [], room);
+  list(dump, reading, room, names) {
+    return this.#askForText("listing", dump, reading, [], room, names);
+  }
+
+  writeName(names, offset, thread, number, name) {
+    return this.#askToChange("write_name", names, () => [offset, thread, number, ...this.#lendToRead(name)]);
   }
 
   /** The text of a number, its length as the call gave it, and how many bytes changed past it. */
@@ -364,7 +388,7 @@ export class RawAnswerer {
       struct.writeUInt8(type, 0);
       words.forEach((word, index) => struct.writeUInt32LE(word, 4 + 4 * index));
       struct.set(reserved, 16);
-    }), ...this.#lendName(name)]);
+    }), ...this.#lendToRead(name)]);
   }
 
   remove(buffer, pointer) {

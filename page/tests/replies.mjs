@@ -28,18 +28,23 @@ function workedOut(bytes) {
   return total * BigInt(BASE) + BigInt(bytes[last]);
 }
 
-let latest = { bytes: Buffer.alloc(0), digest: 1n };
+const remembered = [];
+const MOST_REMEMBERED = 4;
 
-/** The digest of a buffer. Most calls leave the buffer as it was, so the latest digest is remembered. */
+/** The digest of a buffer or a name file. Most calls leave both as they were, so the latest digests are remembered. */
 function digest(bytes) {
-  if (!latest.bytes.equals(bytes)) latest = { bytes: Buffer.from(bytes), digest: workedOut(bytes) };
-  return latest.digest;
+  const known = remembered.find((each) => each.bytes.equals(bytes));
+  if (known !== undefined) return known.digest;
+  remembered.unshift({ bytes: Buffer.from(bytes), digest: workedOut(bytes) });
+  remembered.length = Math.min(remembered.length, MOST_REMEMBERED);
+  return remembered[0].digest;
 }
 
 const refused = ({ number, place }) => `${number} ${place}`;
 const escaped = (character) => (/["\\]/.test(character) ? `\\${character}` : `\\u00${character.charCodeAt(0).toString(16).padStart(2, "0")}`);
 const quoted = (name) => `"${name.replace(/["\\]|[^ -~]/g, escaped)}"`;
-const called = ({ name, gone }) => (name === null ? "null" : `${quoted(name)} ${gone ? "gone" : "live"}`);
+const kindOf = ({ gone, filed }) => (filed ? "filed" : gone ? "gone" : "live");
+const called = (given) => (given.name === null ? "null" : `${quoted(given.name)} ${kindOf(given)}`);
 
 function verdict(checked) {
   if (checked.refusal) return refused(checked.refusal);
@@ -49,8 +54,9 @@ function verdict(checked) {
 
 function shownEvent(event) {
   if (event.refusal) return refused(event.refusal);
-  const { ptr, field, id, stamp, info, ticks, by } = event;
-  return [ptr, field, id, stamp, ...info, ticks, by, called(event)].join(" ");
+  const { ptr, field, id, stamp, info, ticks, by, event: own } = event;
+  const ownName = own === undefined ? [] : [called({ name: own, filed: true })];
+  return [ptr, field, id, stamp, ...info, ticks, by, called(event), ...ownName].join(" ");
 }
 
 function foundName(found) {
@@ -79,27 +85,32 @@ function checkedInPieces(answerer, dump, first, step) {
 
 const outcome = ({ refusal, value }, buffer) => `${refusal ? refused(refusal) : `done ${value}`} ${digest(buffer)}`;
 
-// The reply to a call by its letter.
+// The reply to a call by its letter, with the case's name file where the call is made with one.
 const FORMS = {
-  c: (answerer, buffer) => `${verdict(answerer.check(buffer))}\n`,
-  p: (answerer, buffer, first, step) => `${verdict(checkedInPieces(answerer, buffer, first, step))}\n`,
-  e: (answerer, buffer, position) => `${shownEvent(answerer.event(buffer, position))}\n`,
-  n: (answerer, buffer, pointer) => `${foundName(answerer.findName(buffer, pointer))}\n`,
-  l: (answerer, buffer, reading, position, room) => written(answerer.line(buffer, reading, position, room)),
-  a: (answerer, buffer, reading, room) => written(answerer.list(buffer, reading, room)),
-  m: (answerer, buffer, room) => `${mendedCopy(answerer.mend(buffer, room), answerer)}\n`,
-  b: (answerer, buffer) => `${buffer.length <= MOST_IN_HEX ? buffer.toString("hex") : ""}\n`,
-  f: (answerer, buffer, format) => `${outcome(answerer.format(buffer, format), buffer)}\n`,
-  w: (answerer, buffer, slot) => `${outcome(answerer.record(buffer, slot), buffer)}\n`,
-  o: (answerer, buffer, object, name) => `${outcome(answerer.register(buffer, object, name), buffer)}\n`,
-  x: (answerer, buffer, pointer) => `${outcome(answerer.remove(buffer, pointer), buffer)}\n`,
+  c: (answerer, { buffer }) => `${verdict(answerer.check(buffer))}\n`,
+  p: (answerer, { buffer }, first, step) => `${verdict(checkedInPieces(answerer, buffer, first, step))}\n`,
+  e: (answerer, { buffer }, position) => `${shownEvent(answerer.event(buffer, position))}\n`,
+  E: (answerer, { buffer, names }, position) => `${shownEvent(answerer.event(buffer, position, names))}\n`,
+  n: (answerer, { buffer }, pointer) => `${foundName(answerer.findName(buffer, pointer))}\n`,
+  N: (answerer, { buffer, names }, pointer) => `${foundName(answerer.findName(buffer, pointer, names))}\n`,
+  l: (answerer, { buffer }, reading, position, room) => written(answerer.line(buffer, reading, position, room)),
+  L: (answerer, { buffer, names }, reading, position, room) => written(answerer.line(buffer, reading, position, room, names)),
+  a: (answerer, { buffer }, reading, room) => written(answerer.list(buffer, reading, room)),
+  A: (answerer, { buffer, names }, reading, room) => written(answerer.list(buffer, reading, room, names)),
+  m: (answerer, { buffer }, room) => `${mendedCopy(answerer.mend(buffer, room), answerer)}\n`,
+  b: (answerer, { buffer }) => `${buffer.length <= MOST_IN_HEX ? buffer.toString("hex") : ""}\n`,
+  f: (answerer, { buffer }, format) => `${outcome(answerer.format(buffer, format), buffer)}\n`,
+  w: (answerer, { buffer }, slot) => `${outcome(answerer.record(buffer, slot), buffer)}\n`,
+  o: (answerer, { buffer }, object, name) => `${outcome(answerer.register(buffer, object, name), buffer)}\n`,
+  x: (answerer, { buffer }, pointer) => `${outcome(answerer.remove(buffer, pointer), buffer)}\n`,
+  r: (answerer, { names }, thread, number, offset, name) => `${outcome(answerer.writeName(names, offset, thread, number, name), names)}\n`,
 };
 
 /** What is printed for each case, one after another; the cases themselves stay as they are. */
 function* repliesTo(cases, answerer) {
-  for (const { title, buffer, calls } of cases) {
-    const changing = Buffer.from(buffer);
-    const replies = [`${title}: ${digest(changing)}\n`];
+  for (const { title, buffer, names, calls } of cases) {
+    const changing = { buffer: Buffer.from(buffer), names: Buffer.from(names) };
+    const replies = [`${title}: ${digest(changing.buffer)} ${digest(changing.names)}\n`];
     for (const { letter, given } of calls) replies.push(FORMS[letter](answerer, changing, ...given));
     yield replies.join("");
   }

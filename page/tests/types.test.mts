@@ -26,6 +26,28 @@ export async function fetched(asked: URLSearchParams): Promise<bigint[]> {
   return (await fetchListing("pump.jsonl", asked.get("events") ?? "")).map(({ key }) => key);
 }
 
+export function named(library: Library, dump: Uint8Array, names: ArrayBuffer | undefined): (string | null | undefined)[] {
+  const answer = library.list(dump, { rate: 3000000, unit: 8192, serial: 0 }, names);
+  const listed = answer.refusal === null ? readListing(answer.text).map(({ event }) => event) : [];
+  // @ts-expect-error: without a name file a line tells no event's name.
+  const own: string | null = readLine("").event;
+  const event = library.event(dump, 0, names);
+  const found = library.findName(dump, 5n, names);
+  // @ts-expect-error: null is no name file.
+  library.list(dump, { rate: 3000000, unit: 8192, serial: 0 }, null);
+  return [...listed, own, event.event, found.filed ? found.name : null];
+}
+
+export function written(library: Library, names: Uint8Array): number {
+  const name = new TextEncoder().encode("start");
+  const answer = library.writeName(names, 0, { kind: "event", number: 5, name });
+  // @ts-expect-error: a text is no name, since its bytes hang on an encoding.
+  library.writeName(names, 13n, { kind: "thread", number: 0x20002000, name: "valve" });
+  // @ts-expect-error: a record is an event's or a thread's.
+  library.writeName(names, 13n, { kind: "timer", number: 0x20002000, name });
+  return answer.refusal === null ? answer.length : 0;
+}
+
 // As docs/PAGE.md has it.
 export function newestFirst(text: string): ListedEvent[] {
   return [...readListing(text)].sort((one, other) => (one.key < other.key ? 1 : -1));

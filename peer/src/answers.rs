@@ -1,26 +1,27 @@
-//! Makes one call on a buffer and holds everything it answers.
+//! Makes one call on a buffer and a name file, and holds everything it answers.
 
-use crate::call::Call;
+use crate::call::{Call, Naming};
 use crate::check::{check, Summary};
 use crate::digest::digest;
-use crate::event::{event, Context, Event};
-use crate::find_name::find_name;
+use crate::event::{event, event_with_names, Context, Event};
+use crate::find_name::{find_name, find_name_with_names};
 use crate::format::format;
-use crate::line::line;
-use crate::listing::listing;
+use crate::line::{line, line_with_names};
+use crate::listing::{listing, listing_with_names};
 use crate::mend::{mend, Mended};
+use crate::name::{Name, NameKind};
 use crate::record::record;
 use crate::refusal::Refusal;
 use crate::register::register;
-use crate::registry::Name;
 use crate::remove::remove;
+use crate::write_name::{write_name, NameRecord};
 
-/// A name's bytes, its offset in the dump, and whether its thread is gone.
+/// A name's bytes, its kind, and its offset in the dump or, where it is filed, in the name file.
 #[derive(Clone, Debug, PartialEq, Eq)]
 pub struct FoundName {
     pub bytes: Vec<u8>,
     pub at: usize,
-    pub gone: bool,
+    pub kind: NameKind,
 }
 
 #[derive(Clone, Debug, PartialEq, Eq)]
@@ -29,6 +30,8 @@ pub struct EventAnswer {
     pub ticks: u64,
     pub context: Context,
     pub name: Option<FoundName>,
+    /// The outer none is that of a call without a name file.
+    pub event_name: Option<Option<FoundName>>,
 }
 
 #[derive(Clone, Debug, PartialEq, Eq)]
@@ -47,7 +50,7 @@ pub enum Reply {
         result: Result<Vec<u8>, Refusal>,
         changed: usize,
     },
-    /// Format, record, register or remove, with the digest of the whole buffer afterwards.
+    /// Format, record, register or remove, with the digest of the whole buffer afterwards; or a record's writing, with that of the whole name file.
     Written {
         result: Result<usize, Refusal>,
         digest: u64,
@@ -77,30 +80,58 @@ impl Reply {
 const UNTOUCHED: u8 = b'.';
 const NOT_LENT: usize = 64;
 
-pub fn answer(buffer: &mut [u8], call: &Call) -> Reply {
+pub fn answer(buffer: &mut [u8], names: &mut [u8], call: &Call) -> Reply {
     match call {
         Call::Check => Reply::Check(check(buffer)),
         Call::Event { position } => {
             let found = event(buffer, *position);
-            Reply::Event(found.map(|event| event_answer(buffer, &event)))
+            Reply::Event(found.map(|event| event_answer(buffer, &[], &event)))
+        }
+        Call::EventWithNames { position } => {
+            let found = event_with_names(buffer, names, *position);
+            Reply::Event(found.map(|event| event_answer(buffer, names, &event)))
         }
         Call::FindName { pointer } => {
             let found = find_name(buffer, *pointer);
-            Reply::FindName(found.map(|name| name.map(|name| found_name(buffer, name))))
+            Reply::FindName(found.map(|name| name.map(|name| found_name(buffer, &[], name))))
+        }
+        Call::FindNameWithNames { pointer } => {
+            let found = find_name_with_names(buffer, names, *pointer);
+            Reply::FindName(found.map(|name| name.map(|name| found_name(buffer, names, name))))
         }
         Call::Line {
             reading,
             position,
             room,
         } => text(*room, |output| line(buffer, reading, *position, output)),
+        Call::LineWithNames {
+            reading,
+            position,
+            room,
+        } => text(*room, |output| {
+            line_with_names(buffer, names, reading, *position, output)
+        }),
         Call::Listing { reading, room } => text(*room, |output| listing(buffer, reading, output)),
+        Call::ListingWithNames { reading, room } => text(*room, |output| {
+            listing_with_names(buffer, names, reading, output)
+        }),
         Call::Format(plan) => written(format(buffer, plan), buffer),
         Call::Record(words) => written(record(buffer, words), buffer),
         Call::Register(registration) => written(register(buffer, &registration.object()), buffer),
         Call::Remove { pointer } => written(remove(buffer, *pointer), buffer),
         Call::Bytes => Reply::Bytes(buffer.to_vec()),
         Call::Mend { room } => mended(*room, buffer),
+        Call::WriteName(naming) => written(named(names, naming), names),
     }
+}
+
+fn named(names: &mut [u8], naming: &Naming) -> Result<usize, Refusal> {
+    let record = NameRecord {
+        named: naming.named,
+        number: naming.number,
+        name: &naming.name.bytes(),
+    };
+    write_name(names, naming.offset, &record)
 }
 
 fn written(result: Result<usize, Refusal>, buffer: &[u8]) -> Reply {
@@ -136,7 +167,8 @@ fn with_output<T>(
     (result, output, changed)
 }
 
-fn event_answer(dump: &[u8], event: &Event) -> EventAnswer {
+fn event_answer(dump: &[u8], names: &[u8], event: &Event) -> EventAnswer {
+    let found = |name: Option<Name>| name.map(|name| found_name(dump, names, name));
     let [one, two, three, four] = event.information;
     let words = [
         event.pointer,
@@ -152,15 +184,20 @@ fn event_answer(dump: &[u8], event: &Event) -> EventAnswer {
         words,
         ticks: event.ticks,
         context: event.context,
-        name: event.name.map(|name| found_name(dump, name)),
+        name: found(event.name),
+        event_name: event.event_name.map(found),
     }
 }
 
-/// The name is a part of the dump, so the two addresses tell where.
-fn found_name(dump: &[u8], name: Name) -> FoundName {
+/// The name is a part of the dump or of the name file, so the two addresses tell where.
+fn found_name(dump: &[u8], names: &[u8], name: Name) -> FoundName {
+    let whole = match name.kind {
+        NameKind::Live | NameKind::Gone => dump,
+        NameKind::Filed => names,
+    };
     FoundName {
         bytes: name.bytes.to_vec(),
-        at: name.bytes.as_ptr() as usize - dump.as_ptr() as usize,
-        gone: name.gone,
+        at: name.bytes.as_ptr() as usize - whole.as_ptr() as usize,
+        kind: name.kind,
     }
 }

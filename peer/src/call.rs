@@ -1,6 +1,8 @@
-//! The calls that a case makes on its buffer, and their form in a file of cases.
+//! The calls that a case makes on its buffer and its name file, and their form in a file of cases.
 
+use crate::filled::Filled;
 use crate::format::Plan;
+use crate::name_file::Named;
 use crate::order::ByteOrder;
 use crate::reading::Reading;
 use crate::register::Object;
@@ -25,6 +27,15 @@ impl Registration {
             name: &self.name,
         }
     }
+}
+
+/// A record to write into the name file, its name owned.
+#[derive(Clone, Debug, PartialEq, Eq)]
+pub struct Naming {
+    pub named: Named,
+    pub number: u32,
+    pub offset: usize,
+    pub name: Filled,
 }
 
 #[derive(Clone, Debug, PartialEq, Eq)]
@@ -55,6 +66,22 @@ pub enum Call {
     Mend {
         room: u32,
     },
+    EventWithNames {
+        position: usize,
+    },
+    FindNameWithNames {
+        pointer: u32,
+    },
+    LineWithNames {
+        reading: Reading,
+        position: usize,
+        room: u32,
+    },
+    ListingWithNames {
+        reading: Reading,
+        room: u32,
+    },
+    WriteName(Naming),
 }
 
 impl Call {
@@ -72,6 +99,11 @@ impl Call {
             Call::Remove { .. } => b'x',
             Call::Bytes => b'b',
             Call::Mend { .. } => b'm',
+            Call::EventWithNames { .. } => b'E',
+            Call::FindNameWithNames { .. } => b'N',
+            Call::LineWithNames { .. } => b'L',
+            Call::ListingWithNames { .. } => b'A',
+            Call::WriteName(_) => b'r',
         }
     }
 
@@ -86,9 +118,18 @@ impl Call {
     fn arguments(&self) -> Vec<u8> {
         match self {
             Call::Check | Call::Bytes => Vec::new(),
-            Call::Event { position } => long_bytes(*position).to_vec(),
-            Call::FindName { pointer } | Call::Remove { pointer } => word_bytes(&[*pointer]),
+            Call::Event { position } | Call::EventWithNames { position } => {
+                long_bytes(*position).to_vec()
+            }
+            Call::FindName { pointer }
+            | Call::FindNameWithNames { pointer }
+            | Call::Remove { pointer } => word_bytes(&[*pointer]),
             Call::Line {
+                reading,
+                position,
+                room,
+            }
+            | Call::LineWithNames {
                 reading,
                 position,
                 room,
@@ -98,7 +139,7 @@ impl Call {
                 bytes.extend_from_slice(&room.to_le_bytes());
                 bytes
             }
-            Call::Listing { reading, room } => {
+            Call::Listing { reading, room } | Call::ListingWithNames { reading, room } => {
                 let mut bytes = reading_bytes(reading);
                 bytes.extend_from_slice(&room.to_le_bytes());
                 bytes
@@ -107,6 +148,7 @@ impl Call {
             Call::Record(words) => word_bytes(words),
             Call::Register(registration) => registration_bytes(registration),
             Call::Mend { room } => word_bytes(&[*room]),
+            Call::WriteName(naming) => naming_bytes(naming),
         }
     }
 }
@@ -125,6 +167,16 @@ fn registration_bytes(registration: &Registration) -> Vec<u8> {
     bytes.extend_from_slice(&word_bytes(&registration.parameters));
     bytes.extend_from_slice(&registration.reserved);
     bytes.extend_from_slice(&registration.name);
+    bytes
+}
+
+fn naming_bytes(naming: &Naming) -> Vec<u8> {
+    let mut bytes = vec![u8::from(naming.named == Named::Thread)];
+    bytes.extend_from_slice(&naming.number.to_le_bytes());
+    bytes.extend_from_slice(&long_bytes(naming.offset));
+    bytes.extend_from_slice(&naming.name.length.to_le_bytes());
+    bytes.push(naming.name.fill);
+    bytes.extend_from_slice(&naming.name.given);
     bytes
 }
 

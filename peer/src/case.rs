@@ -1,45 +1,46 @@
-//! A case: a buffer, the calls made on it in turn, and its form in a file of cases.
+//! A case: a buffer, a name file, the calls made on them in turn, and its form in a file of cases.
 
 use crate::call::Call;
+use crate::filled::Filled;
 
 #[derive(Clone, Debug, PartialEq, Eq)]
 pub struct Case {
     pub title: String,
-    pub length: u32,
-    pub fill: u8,
-    /// The front of the buffer; the rest of it is the fill byte.
-    pub given: Vec<u8>,
+    buffer: Filled,
+    names: Filled,
     pub calls: Vec<Call>,
 }
 
 impl Case {
-    /// Makes a case of a whole buffer; equal bytes at its end become the fill.
-    pub fn new(title: String, buffer: &[u8], calls: Vec<Call>) -> Case {
-        let fill = buffer.last().copied().unwrap_or(0);
-        let kept = buffer.iter().rposition(|&byte| byte != fill);
+    /// Makes a case of a whole buffer and a whole name file.
+    pub fn new(title: String, buffer: &[u8], names: &[u8], calls: Vec<Call>) -> Case {
         Case {
             title,
-            length: buffer.len() as u32,
-            fill,
-            given: buffer[..kept.map_or(0, |last| last + 1)].to_vec(),
+            buffer: Filled::new(buffer),
+            names: Filled::new(names),
             calls,
         }
     }
 
     /// The buffer before the first call.
     pub fn buffer(&self) -> Vec<u8> {
-        let mut buffer = self.given.clone();
-        buffer.resize(self.length as usize, self.fill);
-        buffer
+        self.buffer.bytes()
+    }
+
+    /// The name file before the first call.
+    pub fn names(&self) -> Vec<u8> {
+        self.names.bytes()
     }
 
     pub fn encode(&self, file: &mut Vec<u8>) {
         file.push(self.title.len() as u8);
         file.extend_from_slice(self.title.as_bytes());
-        file.extend_from_slice(&self.length.to_le_bytes());
-        file.push(self.fill);
-        file.extend_from_slice(&(self.given.len() as u32).to_le_bytes());
-        file.extend_from_slice(&self.given);
+        for bytes in [&self.buffer, &self.names] {
+            file.extend_from_slice(&bytes.length.to_le_bytes());
+            file.push(bytes.fill);
+            file.extend_from_slice(&(bytes.given.len() as u32).to_le_bytes());
+            file.extend_from_slice(&bytes.given);
+        }
         for call in &self.calls {
             call.encode(file);
         }

@@ -1,4 +1,4 @@
-//! Reads and writes ThreadX trace buffers as document 01 says, with requests A1 to A3 and A5 of document 02: a second, independent writing of the rules.
+//! Reads and writes ThreadX trace buffers as document 01 says, with requests A1 to A3, A5 and A7 of document 02: a second, independent writing of the rules.
 #![forbid(unsafe_code)]
 
 pub mod answers;
@@ -7,6 +7,7 @@ pub mod case;
 pub mod check;
 pub mod digest;
 pub mod event;
+pub mod filled;
 pub mod find_name;
 pub mod format;
 pub mod generate;
@@ -16,6 +17,8 @@ pub mod limits;
 pub mod line;
 pub mod listing;
 pub mod mend;
+pub mod name;
+pub mod name_file;
 pub mod number;
 pub mod order;
 pub mod print;
@@ -27,20 +30,23 @@ pub mod registry;
 pub mod remove;
 pub mod ring;
 pub mod text;
+pub mod write_name;
 
 pub use check::{check, Summary};
-pub use event::{event, Context, Event};
-pub use find_name::find_name;
+pub use event::{event, event_with_names, Context, Event};
+pub use find_name::{find_name, find_name_with_names};
 pub use format::{format, Plan};
 pub use header::Header;
-pub use line::line;
-pub use listing::listing;
+pub use line::{line, line_with_names};
+pub use listing::{listing, listing_with_names};
 pub use mend::{mend, Mended};
+pub use name::{Name, NameKind};
+pub use name_file::Named;
 pub use number::number;
 pub use order::ByteOrder;
 pub use reading::Reading;
 pub use record::record;
 pub use refusal::Refusal;
 pub use register::{register, Object};
-pub use registry::Name;
 pub use remove::remove;
+pub use write_name::{write_name, NameRecord};

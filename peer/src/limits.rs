@@ -1,10 +1,11 @@
-//! The sizes and the allowed values that document 01 names.
+//! The sizes and the allowed values that documents 01 and 02 name.
 
 pub const ID: u32 = 0x5458_5442;
 pub const HEADER_SIZE: usize = 48;
 pub const SLOT_SIZE: usize = 32;
 pub const ENTRY_FIXED_SIZE: usize = 16;
 pub const LARGEST_DUMP: usize = 65_536;
+pub const LARGEST_NAME_FILE: usize = 65_536;
 pub const FREE: u8 = 1;
 pub const THREAD: u8 = 1;
 pub const INIT_POINTER: u32 = 0xF0F0_F0F0;

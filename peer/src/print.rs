@@ -9,8 +9,9 @@ use crate::text::push_name;
 
 const LONGEST_SHOWN: usize = 1_024;
 
-pub fn print_title(title: &str, buffer: &[u8], printed: &mut Vec<u8>) {
-    push_text(printed, &format!("{}: {}\n", title, digest(buffer)));
+pub fn print_title(title: &str, buffer: &[u8], names: &[u8], printed: &mut Vec<u8>) {
+    let digests = format!("{} {}", digest(buffer), digest(names));
+    push_text(printed, &format!("{}: {}\n", title, digests));
 }
 
 pub fn print_reply(reply: &Reply, printed: &mut Vec<u8>) {
@@ -98,6 +99,10 @@ fn print_event(event: &EventAnswer, printed: &mut Vec<u8>) {
         &format!("{} {} ", event.ticks, event.context.text()),
     );
     print_text_and_kind(event.name.as_ref(), printed);
+    if let Some(name) = &event.event_name {
+        printed.push(b' ');
+        print_text_and_kind(name.as_ref(), printed);
+    }
     printed.push(b'\n');
 }
 
@@ -110,11 +115,11 @@ fn print_name(name: Option<&FoundName>, printed: &mut Vec<u8>) {
     push_text(printed, &after);
 }
 
-/// The name's text as in a line; behind it, where there is a name, whether its thread is live or gone.
+/// The name's text as in a line; behind it, where there is a name, its kind.
 fn print_text_and_kind(name: Option<&FoundName>, printed: &mut Vec<u8>) {
     push_name(printed, name.map(|name| &name.bytes[..]));
     if let Some(name) = name {
-        push_text(printed, if name.gone { " gone" } else { " live" });
+        push_text(printed, &format!(" {}", name.kind.text()));
     }
 }
 

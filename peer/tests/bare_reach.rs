@@ -25,8 +25,9 @@ struct Shown {
 fn shown(case: &Case) -> Vec<Shown> {
     let mut shown = Vec::new();
     let mut buffer = case.buffer();
+    let mut names = case.names();
     for call in &case.calls {
-        let reply = answer(&mut buffer, call);
+        let reply = answer(&mut buffer, &mut names, call);
         let (reading, text) = match (call, reply) {
             (
                 Call::Line { reading, .. } | Call::Listing { reading, .. },
@@ -55,7 +56,7 @@ fn times(shown: &[Shown], mark: &str, wanted: impl Fn(&Shown) -> bool) -> usize 
 #[test]
 fn generated_cases_lie_on_both_sides() {
     let mut generator = Generator::new(5);
-    let cases = (0..8_000).flat_map(|_| shown(&generator.next_case()));
+    let cases = (0..14_000).flat_map(|_| shown(&generator.next_case()));
     let cases: Vec<Shown> = cases.collect();
     for letter in [b'l', b'a'] {
         for key in KEYS {

@@ -16,7 +16,7 @@ fn sound(plan: &Plan, registry_end: usize, buffer_end: usize, leftover: usize) -
     let mut dump = vec![0xEE; buffer_end + leftover];
     let slots = format(&mut dump, plan).unwrap();
     if plan.entries > 0 {
-        assert_eq!(answer(&mut dump, &registration(5)).refusal(), None);
+        assert_eq!(answer(&mut dump, &mut [], &registration(5)).refusal(), None);
     }
     for stamp in 0..=slots as u32 {
         record(&mut dump, &[5, 16, 1 + stamp, stamp, 1, 2, 3, 4]).unwrap();
@@ -89,10 +89,10 @@ impl Sound {
 
     fn compare(&self, call: &Call) {
         let mut whole = self.dump.clone();
-        let of_whole = without_digest(answer(&mut whole, call));
+        let of_whole = without_digest(answer(&mut whole, &mut [], call));
         for length in 0..=self.dump.len() {
             let mut buffer = self.dump[..length].to_vec();
-            let reply = answer(&mut buffer, call);
+            let reply = answer(&mut buffer, &mut [], call);
             match self.refusal(length) {
                 None => {
                     assert_eq!(without_digest(reply), of_whole);

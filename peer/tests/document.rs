@@ -229,7 +229,7 @@ fn name_bytes() {
     assert!(text.contains(r#""name":"A\"\u000a","#));
     let name = Name {
         bytes: &[0x41, 0x22, 0x0A],
-        gone: false,
+        kind: NameKind::Live,
     };
     assert_eq!(find_name(&buffer, 0x2000_1000), Ok(Some(name)));
     assert_eq!(find_name(&buffer, 0x2000_1001), Ok(None));

@@ -58,11 +58,17 @@ fn object(kind: u8, pointer: u32, name: &[u8]) -> Object<'_> {
 }
 
 fn live(bytes: &[u8]) -> Option<Name<'_>> {
-    Some(Name { bytes, gone: false })
+    Some(Name {
+        bytes,
+        kind: NameKind::Live,
+    })
 }
 
 fn gone(bytes: &[u8]) -> Option<Name<'_>> {
-    Some(Name { bytes, gone: true })
+    Some(Name {
+        bytes,
+        kind: NameKind::Gone,
+    })
 }
 
 fn found(dump: &[u8]) -> Option<Name<'_>> {
@@ -74,7 +80,7 @@ fn name_of_event(dump: &[u8], pointer: u32, field: u32) -> Option<(bool, Vec<u8>
     let mut buffer = dump.to_vec();
     record(&mut buffer, &[pointer, field, 5, 0, 1, 2, 3, 4]).unwrap();
     let name = event(&buffer, 0).unwrap().name;
-    name.map(|name| (name.gone, name.bytes.to_vec()))
+    name.map(|name| (name.kind == NameKind::Gone, name.bytes.to_vec()))
 }
 
 /// The line of an event with the pointer and the field, from "by" to "field".
@@ -326,7 +332,7 @@ fn the_printed_replies() {
         let mut buffer = dump(entries);
         record(&mut buffer, &[ISR, POINTER, 5, 0, 1, 2, 3, 4]).unwrap();
         let mut printed = Vec::new();
-        print_reply(&answers::answer(&mut buffer, &call), &mut printed);
+        print_reply(&answers::answer(&mut buffer, &mut [], &call), &mut printed);
         String::from_utf8(printed).unwrap()
     };
     let named = |entries: &[Entry]| printed(entries, call::Call::FindName { pointer: POINTER });

@@ -292,12 +292,13 @@ impl Seen {
 fn every_call_meets_gone_threads() {
     let mut seen = Seen::default();
     let mut generator = Generator::new(8);
-    for _ in 0..4_500 {
+    for _ in 0..9_000 {
         let case = generator.next_case();
         let mut buffer = case.buffer();
+        let mut names = case.names();
         let mut history = History::default();
         for call in &case.calls {
-            let reply = answer(&mut buffer, call);
+            let reply = answer(&mut buffer, &mut names, call);
             history.follow(call, &reply);
             if reply.refusal().is_none() {
                 seen.call(call, &buffer, &history);
@@ -324,10 +325,11 @@ fn named_cases_have_both_kinds() {
     let mut texts = Vec::new();
     for case in document::cases() {
         let mut buffer = case.buffer();
+        let mut names = case.names();
         for call in &case.calls {
             if let Reply::Text {
                 result: Ok(text), ..
-            } = answer(&mut buffer, call)
+            } = answer(&mut buffer, &mut names, call)
             {
                 texts.push(String::from_utf8(text).unwrap());
             }

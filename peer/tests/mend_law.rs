@@ -106,7 +106,10 @@ impl<'a> Seen<'a> {
         let found = threads.first()?;
         Some(Name {
             bytes: found[16..].split(|&byte| byte == 0).next()?,
-            gone: found[0] == 1,
+            kind: match found[0] {
+                1 => NameKind::Gone,
+                _ => NameKind::Live,
+            },
         })
     }
 
@@ -242,10 +245,11 @@ fn generated_dumps() {
     for _ in 0..4_000 {
         let case = generator.next_case();
         let mut buffer = case.buffer();
+        let mut names = case.names();
         mended += usize::from(holds(&buffer));
         for call in &case.calls {
             let before = buffer.clone();
-            answer(&mut buffer, call);
+            answer(&mut buffer, &mut names, call);
             if buffer != before {
                 mended += usize::from(holds(&buffer));
             }

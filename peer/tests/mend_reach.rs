@@ -183,12 +183,13 @@ fn state(dump: &[u8], header: &Header) -> &'static str {
 fn every_rule_is_met() {
     let mut seen = Seen::default();
     let mut generator = Generator::new(6);
-    for _ in 0..4_500 {
+    for _ in 0..6_500 {
         let case = generator.next_case();
         let mut buffer = case.buffer();
+        let mut names = case.names();
         for call in &case.calls {
             let before = buffer.clone();
-            let reply = answer(&mut buffer, call);
+            let reply = answer(&mut buffer, &mut names, call);
             if let (Call::Mend { room }, Reply::Mend { result, .. }) = (call, reply) {
                 match result {
                     Ok(answer) => seen.mended(&before, *room as usize, &answer.mended),

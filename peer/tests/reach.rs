@@ -73,12 +73,13 @@ fn with(mark: &'static str, further: [(&'static str, bool); 2]) -> Vec<&'static 
 fn every_call_meets_cut_dumps() {
     let mut seen: HashMap<(u8, &str), usize> = HashMap::new();
     let mut generator = Generator::new(4);
-    for _ in 0..4_000 {
+    for _ in 0..5_100 {
         let case = generator.next_case();
         let mut buffer = case.buffer();
+        let mut names = case.names();
         for call in &case.calls {
             let before = buffer.clone();
-            if let Some(refusal) = answer(&mut buffer, call).refusal() {
+            if let Some(refusal) = answer(&mut buffer, &mut names, call).refusal() {
                 for mark in marks(&before, refusal) {
                     *seen.entry((call.letter(), mark)).or_default() += 1;
                 }

@@ -26,7 +26,10 @@ fn object(kind: u8, pointer: u32, name: &[u8]) -> Object<'_> {
 }
 
 fn live(bytes: &[u8]) -> Option<Name<'_>> {
-    Some(Name { bytes, gone: false })
+    Some(Name {
+        bytes,
+        kind: NameKind::Live,
+    })
 }
 
 fn refused<T>(number: u32, place: usize) -> Result<T, Refusal> {

@@ -110,10 +110,20 @@ library = record {
     «put_line» = leaves (λ κs a x e p. (p .count, p .bytes)) (λ κs a v w e i. (e i, v .1));
     «fit_line» = leaves (λ κs a x e p. (p .count, p .bytes)) (λ κs a v w e i. (e i, v .1));
   };
+  namer = record {
+    «file_verdict» = equation (λ κs a v w. refl);
+    «name_in» = equation (λ κs a v w. refl);
+    «name_at» = equation (λ κs a v w. refl);
+    «first_record» = equation (λ κs a v w. refl);
+    «kind_of» = equation (λ κs a v w. refl);
+  };
   finder = record {
     «find_name» = equation (λ κs a v w. refl);
+    «find_name_with_names» = equation (λ κs a v w. refl);
     «found_part» = record { asks-nothing = λ κs a. tt; one-answer = λ κs a p q. (one-part (p .allowed) (q .allowed), refl) };
     «name_part» = record { asks-nothing = λ κs a. tt; one-answer = λ κs a p q. (one-part (p .allowed) (q .allowed), refl) };
+    «is_named» = equation (λ κs a v w. refl);
+    «name_with» = equation (λ κs a v w. refl);
     «name_of» = equation (λ κs a v w. refl);
     «entry_name» = equation (λ κs a v w. refl);
     «name_if_entry» = equation (λ κs a v w. refl);
@@ -121,6 +131,7 @@ library = record {
   };
   walk = record {
     event = equation (λ κs a v w. refl);
+    «event_with_names» = equation (λ κs a v w. refl);
     «event_at» = equation (λ κs a v w. refl);
     oldest = equation (λ κs a v w. refl);
     next = equation (λ κs a v w. refl);
@@ -130,7 +141,9 @@ library = record {
   };
   listing = record {
     line = leaves (λ κs a x e p. (p .answered, p .output)) (λ κs a v w e i. (tt, (tt, (tt, (e i, tt)))));
+    «line_with_names» = leaves (λ κs a x e p. (p .answered, p .output)) (λ κs a v w e i. (tt, (tt, (tt, (tt, (e i, tt))))));
     listing = leaves (λ κs a x e p. (p .answered, p .output)) (λ κs a v w e i. (tt, (tt, (e i, tt))));
+    «listing_with_names» = leaves (λ κs a x e p. (p .answered, p .output)) (λ κs a v w e i. (tt, (tt, (tt, (e i, tt)))));
   };
   recorder = record {
     «record» = leaves (λ κs a x e p. p) (λ κs a v w e i. (e i, v .1));
@@ -141,6 +154,9 @@ library = record {
   };
   formatter = record {
     format = leaves (λ κs a x e p. p) (λ κs a v w e i. (e i, v .1));
+  };
+  filer = record {
+    «write_name» = leaves (λ κs a x e p. p) (λ κs a v w e i. (e i, v .1));
   };
   mender = record {
     mend = leaves (λ κs a x e p. p) (λ κs a v w e i. (tt, (e i, tt)));

@@ -15,9 +15,10 @@ pub record ByPairs : Type 0 where
   pub rule : HasPairs pairs
   -- by a table that does, every number and every line is its text
   pub numbers : (table : List ℕ) → HasPairs table → (n : ℕ) → numberBy table n ≡ number n
-  pub lines : (table : List ℕ) → HasPairs table → (l : Line) (name : Option (List ℕ)) → lineBy table l name ≡ line l name
+  pub lines : (table : List ℕ) → HasPairs table → (l : Line) (event : Option (Option (List ℕ))) (name : Option (List ℕ)) → lineBy table l event name ≡ line l event name
   -- a table by which every number is its text does
   pub only : (table : List ℕ) → ((n : ℕ) → numberBy table n ≡ number n) → HasPairs table
   -- and by any table both are as long as their texts
   pub number-lengths : (table : List ℕ) (n : ℕ) → length (numberBy table n) ≡ length (number n)
-  pub line-lengths : (table : List ℕ) (l : Line) (name : Option (List ℕ)) → length (lineBy table l name) ≡ length (line l name)
+  pub line-lengths : (table : List ℕ) (l : Line) (event : Option (Option (List ℕ))) (name : Option (List ℕ))
+      → length (lineBy table l event name) ≡ length (line l event name)

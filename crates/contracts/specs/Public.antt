@@ -8,12 +8,14 @@ use Rattle.arguments.proofs as arguments
 use Rattle.console.proofs as console
 use Rattle.doubles.proofs as doubles
 use Rattle.dump.proofs as dump
+use Rattle.filer.proofs as filer
 use Rattle.finder.proofs as finder
 use Rattle.formatter.proofs as formatter
 use Rattle.header.proofs as header
 use Rattle.lines.proofs as lines
 use Rattle.listing.proofs as listing
 use Rattle.mender.proofs as mender
+use Rattle.namer.proofs as namer
 use Rattle.names.proofs as names
 use Rattle.numbers.proofs as numbers
 use Rattle.output.proofs as output
@@ -95,10 +97,20 @@ pub record Lines : Type 0 where
   pub «put_line» : Settled lines.«put_line».ended lines.«put_line».Reads.Asked lines.«put_line».Reads.Learnt
   pub «fit_line» : Settled lines.«fit_line».ended lines.«fit_line».Reads.Asked lines.«fit_line».Reads.Learnt
 
+pub record Namer : Type 0 where
+  pub «file_verdict» : Settled namer.«file_verdict».ended namer.«file_verdict».Reads.Asked namer.«file_verdict».Reads.Learnt
+  pub «name_in» : Settled namer.«name_in».ended namer.«name_in».Reads.Asked namer.«name_in».Reads.Learnt
+  pub «name_at» : Settled namer.«name_at».ended namer.«name_at».Reads.Asked namer.«name_at».Reads.Learnt
+  pub «first_record» : Settled namer.«first_record».ended namer.«first_record».Reads.Asked namer.«first_record».Reads.Learnt
+  pub «kind_of» : Settled namer.«kind_of».ended namer.«kind_of».Reads.Asked namer.«kind_of».Reads.Learnt
+
 pub record Finder : Type 0 where
   pub «find_name» : Settled finder.«find_name».ended finder.«find_name».Reads.Asked finder.«find_name».Reads.Learnt
+  pub «find_name_with_names» : Settled finder.«find_name_with_names».ended finder.«find_name_with_names».Reads.Asked finder.«find_name_with_names».Reads.Learnt
   pub «found_part» : SettledAs finder.«found_part».ended finder.«found_part».Reads.Asked finder.«found_part».Reads.Learnt (λ κs. unnamed)
   pub «name_part» : SettledAs finder.«name_part».ended finder.«name_part».Reads.Asked finder.«name_part».Reads.Learnt (λ κs. unnamed)
+  pub «is_named» : Settled finder.«is_named».ended finder.«is_named».Reads.Asked finder.«is_named».Reads.Learnt
+  pub «name_with» : Settled finder.«name_with».ended finder.«name_with».Reads.Asked finder.«name_with».Reads.Learnt
   pub «name_of» : Settled finder.«name_of».ended finder.«name_of».Reads.Asked finder.«name_of».Reads.Learnt
   pub «entry_name» : Settled finder.«entry_name».ended finder.«entry_name».Reads.Asked finder.«entry_name».Reads.Learnt
   pub «name_if_entry» : Settled finder.«name_if_entry».ended finder.«name_if_entry».Reads.Asked finder.«name_if_entry».Reads.Learnt
@@ -106,6 +118,7 @@ pub record Finder : Type 0 where
 
 pub record Walk : Type 0 where
   pub event : Settled walk.event.ended walk.event.Reads.Asked walk.event.Reads.Learnt
+  pub «event_with_names» : Settled walk.«event_with_names».ended walk.«event_with_names».Reads.Asked walk.«event_with_names».Reads.Learnt
   pub «event_at» : Settled walk.«event_at».ended walk.«event_at».Reads.Asked walk.«event_at».Reads.Learnt
   pub oldest : Settled walk.oldest.ended walk.oldest.Reads.Asked walk.oldest.Reads.Learnt
   pub next : Settled walk.next.ended walk.next.Reads.Asked walk.next.Reads.Learnt
@@ -115,6 +128,8 @@ pub record Walk : Type 0 where
 
 pub record Listing : Type 0 where
   pub line : Settled listing.line.ended listing.line.Reads.Asked listing.line.Reads.Learnt
+  pub «line_with_names» : Settled listing.«line_with_names».ended listing.«line_with_names».Reads.Asked listing.«line_with_names».Reads.Learnt
+  pub «listing_with_names» : Settled listing.«listing_with_names».ended listing.«listing_with_names».Reads.Asked listing.«listing_with_names».Reads.Learnt
   pub listing : Settled listing.listing.ended listing.listing.Reads.Asked listing.listing.Reads.Learnt
 
 pub record Recorder : Type 0 where
@@ -126,6 +141,9 @@ pub record Registrar : Type 0 where
 
 pub record Formatter : Type 0 where
   pub format : Settled formatter.format.ended formatter.format.Reads.Asked formatter.format.Reads.Learnt
+
+pub record Filer : Type 0 where
+  pub «write_name» : Settled filer.«write_name».ended filer.«write_name».Reads.Asked filer.«write_name».Reads.Learnt
 
 pub record Mender : Type 0 where
   pub mend : Settled mender.mend.ended mender.mend.Reads.Asked mender.mend.Reads.Learnt
@@ -155,12 +173,14 @@ pub record Library : Type 0 where
   pub numbers : Numbers
   pub names : Names
   pub lines : Lines
+  pub namer : Namer
   pub finder : Finder
   pub walk : Walk
   pub listing : Listing
   pub recorder : Recorder
   pub registrar : Registrar
   pub formatter : Formatter
+  pub filer : Filer
   pub mender : Mender
   pub pieces : Pieces
   pub arguments : Arguments

@@ -10,6 +10,7 @@ use Rattle.events.specs.Listing.{Gave}
 use Rattle.events.specs.declared.Event.{Event}
 use Rattle.events.specs.declared.Listed.the-variants.{Written}
 use Rattle.events.specs.declared.Shown.the-variants.{Given}
+use Rattle.rows.proofs.Rows.{passed-before, then-rest}
 use Rattle.rows.specs.Rows.{Accepted, Row, firstBroken}
 use Rattle.rows.specs.declared.Refusal.{Refusal}
 use Rattle.rows.specs.declared.Verdict.{Verdict}
@@ -19,6 +20,10 @@ use Rattle.trace.specs.declared.Found.the-variants.{Searched}
 use Rattle.trace.specs.declared.Name.{Name}
 use Rattle.writing.specs.Writing as writing
 use Rattle.writing.specs.declared.Outcome.the-variants as outcome
+
+-- rows behind others have passed where all have
+pub passed-behind : (rows more : List Row) → Accepted (rows ++ more) → Accepted more
+passed-behind rows more passed = then-rest rows more (passed-before rows more passed) ∙ passed
 
 pub searched-is : (v : Verdict) (sought name : Name) → foundBy v sought ≡ Searched name → (v ≡ Passed) × (name ≡ sought)
 searched-is (Refused f) sought name e = (cc, cc)

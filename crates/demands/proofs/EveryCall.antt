@@ -3,6 +3,7 @@
 use Prim.Native.Nat.{ℕ}
 use mathlib.Core.List.{List, [], _∷_, _++_}
 use mathlib.Core.Logic.{_↔_}
+use mathlib.Core.Option.{Option, none, some}
 use mathlib.Core.Path.{_≡_, refl, sym, ap, _∙_}
 use lib.ListN.{length}
 use Rattle.events.specs.Events.{eventOf, shownBy}
@@ -14,7 +15,9 @@ use Rattle.events.specs.declared.Shown.the-variants as shown
 use Rattle.mending.specs.Mending.{mendOf, mendedBy}
 use Rattle.mending.specs.declared.Mended.the-variants as mended
 use Rattle.mending.specs.declared.Repairs.{Repairs}
-use Rattle.rows.proofs.Numbered.{front-refused}
+use Rattle.naming.specs.Finding.{findNameWith}
+use Rattle.naming.specs.Records.{fileRows, row27}
+use Rattle.rows.proofs.Numbered.{front-refused, numbered}
 use Rattle.rows.proofs.Rows.{then-refused}
 use Rattle.rows.specs.Rows.{Row, firstBroken}
 use Rattle.rows.specs.declared.Refusal.{Refusal}
@@ -25,8 +28,7 @@ use Rattle.trace.proofs.Opened.{open-rows}
 use Rattle.trace.specs.Check.{checkOf}
 use Rattle.trace.specs.Layout.{headerOf}
 use Rattle.trace.specs.Names.{findName, foundBy}
-use Rattle.trace.specs.Slots.{eventCount}
-use Rattle.trace.specs.Table.{dumpRows, headerRows, layoutRows, row11, row12, row13, row25}
+use Rattle.trace.specs.Table.{dumpRows, headerRows, layoutRows, row11, row12, row13}
 use Rattle.trace.specs.declared.Found.the-variants as found
 use Rattle.trace.specs.declared.Name.{Name}
 use Rattle.writing.proofs.Opened.{open-writing-rows}
@@ -53,13 +55,14 @@ module _ (s : List ℕ) (f : Refusal) (refused : firstBroken (headerRows (header
   declined c more all = let say : firstBroken (c .rows) ≡ Refused f = ap firstBroken (sym all) ∙ header-refused more in (rw say, rw say)
 
   pub all-refused : AllRefused s f
-  unfolding checkOf findName eventOf recording registering removing
+  unfolding checkOf findName findNameWith eventOf recording registering removing
   all-refused = record {
     check = rw (dump-refused []);
     name = λ pointer. rw (header-refused (row11 s (headerOf s) ∷ []));
-    event = λ position. rw (dump-refused (row25 position (eventCount s (headerOf s)) ∷ []));
-    listing = λ r old new said. gave-refused _ _ old new said f (dump-refused _);
-    line = λ r position old new said. gave-refused _ _ old new said f (dump-refused _);
+    name-with = λ file pointer. rw (header-refused (row11 s (headerOf s) ∷ fileRows file));
+    event = λ file position. rw (dump-refused (fileRows file ++ _));
+    listing = λ file r old new said. gave-refused _ _ old new said f (dump-refused _);
+    line = λ file r position old new said. gave-refused _ _ old new said f (dump-refused _);
     recording = λ slot. declined (recording slot s) _ refl;
     registering = λ object name. declined (registering object name s) _ refl;
     removing = λ pointer. declined (removing pointer s) _ refl;
@@ -86,18 +89,25 @@ mended-refused : (v : Verdict) (n : ℕ) (r : Repairs) (f : Refusal) → mendedB
 mended-refused (Refused g) n r f e = cc
 mended-refused Passed n r f e = cc
 
--- no row but those of 1 to 10 has the number 26
+-- no row but those of 1 to 10 has the number 26, and so none of a name file
+file-without : (file : Option (List ℕ)) (more : List Row) → numbered 26 more ≡ [] → numbered 26 (fileRows file ++ more) ≡ []
+unfolding open-rows row27
+file-without none more without = without
+file-without (some f) more without = without
+
 module _ (s : List ℕ) (k : ℕ) where
   abbrev rows : List Row
   rows = headerRows (headerOf s) (length s)
 
   pub cut-by-header : SomeRefused s (givenAt 26 k) → firstBroken rows ≡ Refused (givenAt 26 k)
-  unfolding open-rows open-writing-rows findName eventOf recording registering removing mendOf
+  unfolding open-rows open-writing-rows row27 findName findNameWith eventOf recording registering removing mendOf
   cut-by-header (every.by-check e) = front-refused rows _ (givenAt 26 k) (check-refused s _ e) refl
   cut-by-header (every.by-name pointer e) = front-refused rows _ (givenAt 26 k) (found-refused _ _ _ e) refl
-  cut-by-header (every.by-event position e) = front-refused rows _ (givenAt 26 k) (shown-refused _ _ _ e) refl
-  cut-by-header (every.by-listing r old new gave) = front-refused rows _ (givenAt 26 k) (listed-refused _ _ _ (sym (gave .answered))) refl
-  cut-by-header (every.by-line r position old new gave) = front-refused rows _ (givenAt 26 k) (listed-refused _ _ _ (sym (gave .answered))) refl
+  cut-by-header (every.by-name-with none pointer e) = front-refused rows _ (givenAt 26 k) (found-refused _ _ _ e) refl
+  cut-by-header (every.by-name-with (some f) pointer e) = front-refused rows _ (givenAt 26 k) (found-refused _ _ _ e) refl
+  cut-by-header (every.by-event file position e) = front-refused rows _ (givenAt 26 k) (shown-refused _ _ _ e) (file-without file _ refl)
+  cut-by-header (every.by-listing file r old new gave) = front-refused rows _ (givenAt 26 k) (listed-refused _ _ _ (sym (gave .answered))) (file-without file _ refl)
+  cut-by-header (every.by-line file r position old new gave) = front-refused rows _ (givenAt 26 k) (listed-refused _ _ _ (sym (gave .answered))) (file-without file _ refl)
   cut-by-header (every.by-recording slot e) = front-refused rows _ (givenAt 26 k) (outcome-refused _ _ _ e) refl
   cut-by-header (every.by-registering object name e) = front-refused rows _ (givenAt 26 k) (outcome-refused _ _ _ e) refl
   cut-by-header (every.by-removing pointer e) = front-refused rows _ (givenAt 26 k) (outcome-refused _ _ _ e) refl

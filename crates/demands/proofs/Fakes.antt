@@ -2,6 +2,7 @@
 use Prim.Native.Nat.{ℕ}
 use mathlib.Core.Bool.{true, false, true≢false}
 use mathlib.Core.List.{List, [], _∷_, _++_}
+use mathlib.Core.Option.{none}
 use mathlib.Core.Path.{_≡_, refl, sym, ap, _∙_}
 use native.Mathlib.Omega.{arith}
 use lib.ListN.{getD, length, length-replicate, replicate}
@@ -125,20 +126,20 @@ module _ (recorder : Slot → List ℕ → Change) (between last : List ℕ) (tw
 refusing-all : RefusesEverything → ⊥
 refusing-all fake =
     let d = dump 48 unused unused in
-    let (told, none, refused) = fake d in
+    let (told, no-value, refused) = fake d in
     let clash : (told .number ≡ 0 → ⊥) → ⊥ = λ some.
     let broken = first-given (dumpRows d (headerOf d)) _ (refused .only some) in
     let same : true ≡ false = cc (check-passed d (headerOf d) 0 (computed .no-event), broken) in
     true≢false same in
-    clash (λ zero. refused .zero zero .1 none)
+    clash (λ zero. refused .zero zero .1 no-value)
 
 listing-none : ListsNothing → ⊥
 listing-none fake =
     let d = wholeDump Little in
     let case = whole-case Little in
     let header : headerOf d ≡ wholeHeader Little = sym (check-header d (wholeHeader Little) 3 (case .check)) in
-    let room : firstBroken (listingRows d (headerOf d) reading (length {A = ℕ} (replicate threeLong 0))) ≡ Passed = rw (header, length-replicate) (case .room) in
-    let said : Written 0 ≡ listedBy (firstBroken (listingRows d (wholeHeader Little) reading threeLong)) (length (listingText d (wholeHeader Little) reading)) =
+    let room : firstBroken (listingRows none d (headerOf d) reading (length {A = ℕ} (replicate threeLong 0))) ≡ Passed = rw (header, length-replicate) (case .room) in
+    let said : Written 0 ≡ listedBy (firstBroken (listingRows none d (wholeHeader Little) reading threeLong)) (length (listingText none d (wholeHeader Little) reading)) =
     rw (header, length-replicate) at (fake d reading (replicate threeLong 0) room .answered) in
     let clash : Written 0 ≡ Written threeLong = said ∙ rw (case .room, case .listing, computed .three-lines) in
     let none : _≡_ {A = ℕ} 0 threeLong = cc clash in

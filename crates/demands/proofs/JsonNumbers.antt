@@ -6,10 +6,10 @@ use mathlib.Core.Option.{Option, none, some}
 use mathlib.Core.Path.{_≡_, refl, _∙_}
 use native.Mathlib.Omega.{arith}
 use Rattle.events.specs.Events.{eventAt}
-use Rattle.events.specs.Listing.{fields, lineAt, lineOf, linesTo, listingText}
+use Rattle.events.specs.Listing.{fields, lineAt, lineOf, linesTo, listingText, titleIn}
 use Rattle.events.specs.declared.Reading.{Reading}
 use Rattle.text.specs.Ascii.{choose}
-use Rattle.text.specs.Lines.{Part, Value, line, listed, named, numbersIn, numeric, objectText, partText, parts, separated, truth, valueNumbers, valueText, word}
+use Rattle.text.specs.Lines.{Part, Value, eventParts, line, listed, named, numbersIn, numeric, objectText, partText, parts, separated, truth, valueNumbers, valueText, word}
 use Rattle.text.specs.Names.{escape, escaped, hexDigit, name}
 use Rattle.text.specs.Numbers.{digits, isBare, number, quoted}
 use Rattle.text.specs.declared.Line.{Line}
@@ -93,30 +93,38 @@ object-read ps plain = braces (parts-read ps plain)
 pub object-numbers : (ps : List Part) → Each PlainPart ps → jsonNumbers (objectText ps) ≡ map digits (keep isBare (numbersIn ps))
 object-numbers ps plain = whole (object-read ps plain)
 
-line-read : (l : Line) (n : Option (List ℕ)) → Has (line l n) (bare (numbersOf l))
-unfolding line parts numbersIn
-line-read l n = rw (append-nil (bare (numbersOf l))) at (joined 0x0A (refl, refl, refl) (object-read (parts l n) (line-plain l n)) empty)
+-- the numbers of a line are those of its parts, with an event's name and without
+pub numbers-are : (l : Line) (event : Option (Option (List ℕ))) (n : Option (List ℕ)) → numbersIn (parts l event n) ≡ numbersOf l
+unfolding eventParts parts numbersIn
+numbers-are l none n = refl
+numbers-are l (some title) n = refl
+
+line-read : (l : Line) (event : Option (Option (List ℕ))) (n : Option (List ℕ)) → Has (line l event n) (bare (numbersOf l))
+unfolding line
+line-read l event n =
+    rw (append-nil (bare (numbersOf l))) at
+    (joined 0x0A (refl, refl, refl) (rw (numbers-are l event n) at (object-read (parts l event n) (line-plain l event n))) empty)
 
 -- the line of an event, and lines one after another
-line-found : (s : List ℕ) (h : Header) (r : Reading) (position : ℕ) → Has (lineAt s h r position) (bare (numbersOf (fields r position (eventAt s h position))))
-unfolding lineOf
-line-found s h r position = line-read (fields r position (eventAt s h position)) (nameBytes s (eventAt s h position .name))
+module _ (file : Option (List ℕ)) (s : List ℕ) (h : Header) (r : Reading) where
+  line-found : (position : ℕ) → Has (lineAt file s h r position) (bare (numbersOf (fields r position (eventAt file s h position))))
+  unfolding lineOf
+  line-found position = let event = eventAt file s h position in line-read (fields r position event) (titleIn file s event) (nameBytes file s (event .name))
 
-lines-found : (n : ℕ) (s : List ℕ) (h : Header) (r : Reading) → Has (linesTo n s h r) (bare (numbersTo n s h r))
-unfolding linesTo numbersTo keep lineOf line objectText numbersRead
-lines-found zero s h r = empty
-lines-found (suc n) s h r = rw (bare-append (numbersTo n s h r)) (followed (lines-found n s h r) (line-found s h r n) (λ rest bytes. refl))
+  lines-found : (n : ℕ) → Has (linesTo n file s h r) (bare (numbersTo n file s h r))
+  unfolding linesTo numbersTo keep lineOf line objectText numbersRead
+  lines-found zero = empty
+  lines-found (suc n) = rw (bare-append (numbersTo n file s h r)) (followed (lines-found n) (line-found n) (λ rest bytes. refl))
 
-pub listing-numbers : (s : List ℕ) (h : Header) (r : Reading) → jsonNumbers (listingText s h r) ≡ map digits (keep isBare (listedNumbers s h r))
-listing-numbers s h r = whole (lines-found (eventCount s h) s h r)
+  pub listing-numbers : jsonNumbers (listingText file s h r) ≡ map digits (keep isBare (listedNumbers file s h r))
+  listing-numbers = whole (lines-found (eventCount s h))
 
-pub line-numbers : (s : List ℕ) (h : Header) (r : Reading) (position : ℕ)
-    → jsonNumbers (lineAt s h r position) ≡ map digits (keep isBare (numbersOf (fields r position (eventAt s h position))))
-line-numbers s h r position = whole (line-found s h r position)
+  pub line-numbers : (position : ℕ) → jsonNumbers (lineAt file s h r position) ≡ map digits (keep isBare (numbersOf (fields r position (eventAt file s h position))))
+  line-numbers position = whole (line-found position)
 
 -- what a printer of one line or of one number writes
-pub one-line-numbers : (l : Line) (named : Option (List ℕ)) → jsonNumbers (line l named) ≡ map digits (keep isBare (numbersOf l))
-one-line-numbers l n = whole (line-read l n)
+pub one-line-numbers : (l : Line) (event : Option (Option (List ℕ))) (named : Option (List ℕ)) → jsonNumbers (line l event named) ≡ map digits (keep isBare (numbersOf l))
+one-line-numbers l event n = whole (line-read l event n)
 
 pub one-name : (n : Option (List ℕ)) → jsonNumbers (name n) ≡ []
 one-name n = whole (name-read n)

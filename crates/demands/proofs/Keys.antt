@@ -1,25 +1,27 @@
 -- Keys: equal ones have one unit and one serial, and those of lines that were written are equal where a page takes them for one.
 use Prim.Native.Nat.{ℕ, _+_, _^_, _≤_, _<_}
-use mathlib.Core.List.{List, [], append-nil}
+use mathlib.Core.List.{List, [], _++_, append-nil}
 use mathlib.Core.Logic.{_⊎_, inl, inr}
+use mathlib.Core.Option.{Option}
 use mathlib.Core.Path.{_≡_, sym, ap, _∙_}
 use native.Mathlib.Decide.{decLt}
 use native.Mathlib.Omega.{arith}
 use lib.Dec.{ltb}
 use borrow.Author.Tests.{eqb-false, le-ltb, leb-false, lt-ltb}
+use Rattle.events.specs.Listing.{termRows}
 use Rattle.events.specs.declared.Reading.{Reading}
-use Rattle.rows.proofs.Rows.{Among, among, unbroken}
+use Rattle.rows.proofs.Rows.{Among, among, here, unbroken}
 use Rattle.rows.specs.Rows.{Accepted, Row}
 use Rattle.text.specs.Numbers.{isBare, number}
 use Rattle.trace.proofs.Passed.{key-terms}
 use Rattle.trace.specs.Keys.{key}
 use Rattle.trace.specs.Layout.{headerOf}
 use Rattle.trace.specs.Slots.{eventCount}
-use Rattle.trace.specs.Table.{row14, row15, row25}
+use Rattle.trace.specs.Table.{dumpRows, row14, row15, row25}
 use Rattle.demands.specs.Keys.{Keys, keyAt}
 use Rattle.demands.specs.Page.{TakenForOne, WrittenLine, by-itself, in-listing, keyText, lineIn, readByPage}
 use Rattle.demands.specs.Shown.{ReadingAccepted}
-use Rattle.demands.proofs.Answers.{gave-accepted, wrote-front}
+use Rattle.demands.proofs.Answers.{gave-accepted, passed-behind, wrote-front}
 use Rattle.demands.proofs.BareNumbers.{bare-numbers}
 use Rattle.demands.proofs.Page.{first-line, line-found, line-key, object}
 
@@ -57,23 +59,23 @@ record OfEvent (r : Reading) (p : ℕ) (line : List ℕ) : Type 0 where
   one-of : p < events
   has-key : keyText line ≡ number (keyAt r p)
 
-of-line : (s : List ℕ) (r : Reading) (p : ℕ) (line : List ℕ) {rows : List Row} → Accepted rows → Among (row14 (r .rate)) rows
-    → Among (row15 (r .unit) (r .serial) (eventCount s (headerOf s))) rows → p < eventCount s (headerOf s) → line ≡ object s (headerOf s) r p → OfEvent r p line
-of-line s r p line passed rate terms below is =
-    record { events = eventCount s (headerOf s); reading = accepted r _ passed rate terms; one-of = below; has-key = ap keyText is ∙ line-key s (headerOf s) r p }
+of-line : (file : Option (List ℕ)) (s : List ℕ) (r : Reading) (p : ℕ) (line : List ℕ) {rows : List Row} → Accepted rows → Among (row14 (r .rate)) rows
+    → Among (row15 (r .unit) (r .serial) (eventCount s (headerOf s))) rows → p < eventCount s (headerOf s) → line ≡ object file s (headerOf s) r p → OfEvent r p line
+of-line file s r p line passed rate terms below is =
+    record { events = eventCount s (headerOf s); reading = accepted r _ passed rate terms; one-of = below; has-key = ap keyText is ∙ line-key file s (headerOf s) r p }
 
 of-event : (r : Reading) (p : ℕ) (line : List ℕ) → WrittenLine r p line → OfEvent r p line
 unfolding row25
-of-event r p line (in-listing s old new n gave below is) =
+of-event r p line (in-listing file s old new n gave below is) =
     let text = wrote-front _ _ old new n gave ∙ sym (append-nil _) in
-    of-line s r p line (gave-accepted _ _ old new n gave) (search among depth 20) (search among depth 20) below
-    (is ∙ ap (λ (t : List ℕ). lineIn t p) text ∙ line-found s (headerOf s) r _ p [] below)
-of-event r p line (by-itself s old new n gave is) =
+    of-line file s r p line (gave-accepted _ _ old new n gave) (search among depth 20) (search among depth 20) below
+    (is ∙ ap (λ (t : List ℕ). lineIn t p) text ∙ line-found file s (headerOf s) r _ p [] below)
+of-event r p line (by-itself file s old new n gave is) =
     let passed = gave-accepted _ _ old new n gave in
     let text = wrote-front _ _ old new n gave ∙ sym (append-nil _) in
-    of-line s r p line passed (search among depth 20) (search among depth 20)
-    (leb-false _ _ (unbroken passed (row25 p (eventCount s (headerOf s))) (search among depth 20)))
-    (is ∙ ap (λ (t : List ℕ). lineIn t 0) text ∙ first-line s (headerOf s) r p [])
+    of-line file s r p line passed (search among depth 20) (search among depth 20)
+    (leb-false _ _ (unbroken (passed-behind (dumpRows s (headerOf s) ++ termRows file r (eventCount s (headerOf s))) _ passed) (row25 p (eventCount s (headerOf s))) here))
+    (is ∙ ap (λ (t : List ℕ). lineIn t 0) text ∙ first-line file s (headerOf s) r p [])
 
 on-page : (one two : Reading) (p q : ℕ) (a b : List ℕ) → WrittenLine one p a → WrittenLine two q b
     → TakenForOne (readByPage (keyText a)) (readByPage (keyText b)) → (one .unit ≡ two .unit) × (one .serial + p ≡ two .serial + q)

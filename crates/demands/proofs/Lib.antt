@@ -17,6 +17,7 @@ pub mod Keys
 pub mod Layouts
 pub mod Masks
 pub mod Mending
+pub mod NameFiles
 pub mod Names
 pub mod NotRead
 pub mod Offsets

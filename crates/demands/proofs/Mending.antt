@@ -32,7 +32,7 @@ use Rattle.trace.proofs.Passed.{registry-passed, slot-some}
 use Rattle.trace.proofs.SameBytes.{alike-slot}
 use Rattle.trace.specs.Check.{checkOf}
 use Rattle.trace.specs.Layout.{bufferEnd, bufferStart, currentSlot, headerOf, slotAt, slotCount, slotSize, withCurrent}
-use Rattle.trace.specs.Names.{findName, nameBytes, nameIfEntry, nameOf, threadName}
+use Rattle.trace.specs.Names.{findName, nameIfEntry, nameOf, threadName}
 use Rattle.trace.specs.Ring.{fromCurrent, keep, numbersFrom, oldestFirst, slotOf}
 use Rattle.trace.specs.Slots.{eventId, isAtFault, isFault, isUsed}
 use Rattle.trace.specs.Table.{layoutRows, row10, row12, row16}
@@ -41,6 +41,7 @@ use Rattle.trace.specs.declared.Fault.the-variants.{NoId, OutOfTurn}
 use Rattle.trace.specs.declared.Found.the-variants.{Searched}
 use Rattle.trace.specs.declared.Header.{Header}
 use Rattle.writing.proofs.Moved.{current-size, moved-slot}
+use Rattle.writing.specs.Keeping.{KeepsBytes}
 use Rattle.demands.specs.Mending.{InPlace, Mending, Mends, Packed, areOut, cameOf, firstSlot, isWhole, lacksId, noRepairs}
 
 -- an accepted answer: the rows have passed, and its values are those of the definitions
@@ -159,7 +160,7 @@ module _ (s : List ℕ) (more : List Row) (passed : firstBroken (layoutRows (hea
   same-event : (p : ℕ) → p < length (cameOf s) → (k : ℕ) → k < slotSize h → getD t (slotAt h (slotOf t (headerOf t) p) + k) 0 ≡ getD s (slotAt h (getD (cameOf s) p 0) + k) 0
   same-event p below k within = rw header-is (rw came-is at (copy-slot s h more passed p (rw count-is below) k within))
 
-  names : (pointer : ℕ) → (findName t pointer ≡ Searched (nameOf s h pointer)) × (nameBytes t (nameOf s h pointer) ≡ nameBytes s (nameOf s h pointer))
+  names : (pointer : ℕ) → (findName t pointer ≡ Searched (nameOf s h pointer)) × KeepsBytes s t (nameOf s h pointer)
   unfolding findName nameOf nameIfEntry threadName
   names pointer =
       let same = copy-names s h more passed t room (registry-bytes s h more passed) pointer in

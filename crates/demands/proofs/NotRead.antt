@@ -3,6 +3,7 @@ use Prim.Native.Nat.{ℕ, _+_, _≤_, _<_, min}
 use mathlib.Core.Bool.{not}
 use mathlib.Core.List.{List, [], _∷_, _++_}
 use mathlib.Core.Logic.{_⊎_, inl, inr, ⊎-elim}
+use mathlib.Core.Option.{Option}
 use mathlib.Core.Path.{_≡_, refl, sym, ap, ap₂, _∙_}
 use native.Mathlib.Decide.{decLt, ℕ-discrete}
 use native.Mathlib.Nat.{mul-le-mul-right, zero-add}
@@ -10,10 +11,12 @@ use native.Mathlib.Omega.{arith}
 use lib.Dec.{ltb}
 use lib.ListN.{List·getD-append, getD, length, length-append}
 use borrow.Author.Tests.{le-ltb}
-use Rattle.events.specs.Events.{eventAt, eventOf, shownBy}
-use Rattle.events.specs.Listing.{Gave, lineAt, listingText, readingRows}
+use Rattle.events.specs.Events.{eventAt, eventOf, eventRows, shownBy}
+use Rattle.events.specs.Listing.{Gave, lineAt, listingText, termRows}
 use Rattle.events.specs.declared.Listed.{Listed}
 use Rattle.events.specs.declared.Reading.{Reading}
+use Rattle.naming.specs.Finding.{findNameWith, findingRows, nameWith}
+use Rattle.naming.specs.Records.{fileRows}
 use Rattle.rows.proofs.Rows.{then-same}
 use Rattle.rows.specs.Rows.{Row, firstBroken, row, rowAt}
 use Rattle.rows.specs.declared.Refusal.{Refusal}
@@ -24,9 +27,9 @@ use Rattle.trace.proofs.SameDumps.{dump-same, events-same}
 use Rattle.trace.proofs.Opened.{open-rows}
 use Rattle.trace.specs.Check.{checkedBy, checkOf}
 use Rattle.trace.specs.Layout.{currentSlot, entryAt, entryCount, entrySize, headerOf, headerSize, mostBytes, registryEnd, slotAt, slotCount, slotSize}
-use Rattle.trace.specs.Names.{nameBytes, nameOf, threadEntry}
+use Rattle.trace.specs.Names.{foundBy, nameBytes, nameFound, nameOf, threadEntry}
 use Rattle.trace.specs.Slots.{eventCount, slotIn}
-use Rattle.trace.specs.Table.{dumpRows, eventRows, headerRows, row16, row25}
+use Rattle.trace.specs.Table.{dumpRows, headerRows, row16, row25}
 use Rattle.trace.specs.declared.Found.the-variants as found
 use Rattle.trace.specs.declared.Header.{Header}
 use Rattle.trace.specs.declared.Wanted.{Wanted}
@@ -41,7 +44,7 @@ use Rattle.demands.specs.EveryCall.{AllRefused}
 use Rattle.demands.specs.Names.{nameShown}
 use Rattle.demands.specs.NotRead.{DifferOnlyThere, NotRead, SameAnswers, Whole}
 use Rattle.demands.proofs.EveryCall.{all-refused}
-use Rattle.demands.proofs.SameLines.{event-name-same, event-same, line-same, listing-same}
+use Rattle.demands.proofs.SameLines.{event-name-same, event-same, line-same, listing-same, with-same}
 
 -- places that are read: of the header, and, where it passes, of an entry and of a slot
 header-read : (h : Header) (i : ℕ) → i < 36 → (i < 16) ⊎ (18 ≤ i) → NotRead h i → ⊥
@@ -82,11 +85,13 @@ both-refused : (s t : List ℕ) (f : Refusal) → AllRefused s f → AllRefused 
 unfolding nameBytes
 both-refused s t f here there = record {
   check = there .check ∙ sym (here .check);
-  name = λ pointer. record { found = there .name pointer ∙ sym (here .name pointer); bytes = rw (here .name pointer) };
-  event = λ position. there .event position ∙ sym (here .event position);
-  event-name = λ position. rw (here .event position);
-  listing = λ r old new said gave. there .listing r old new said .1 (here .listing r old new said .0 gave);
-  line = λ r position old new said gave. there .line r position old new said .1 (here .line r position old new said .0 gave);
+  name = λ pointer. record { found = there .name pointer ∙ sym (here .name pointer); bytes = λ file. rw (here .name pointer) };
+  name-with = λ file pointer. there .name-with file pointer ∙ sym (here .name-with file pointer);
+  name-with-bytes = λ file pointer. rw (here .name-with file pointer);
+  event = λ file position. there .event file position ∙ sym (here .event file position);
+  event-name = λ file position. rw (here .event file position);
+  listing = λ file r old new said gave. there .listing file r old new said .1 (here .listing file r old new said .0 gave);
+  line = λ file r position old new said gave. there .line file r position old new said .1 (here .line file r position old new said .0 gave);
   recording = λ slot. there .recording slot .0 ∙ sym (here .recording slot .0);
   registering = λ object name. there .registering object name .0 ∙ sym (here .registering object name .0);
   removing = λ pointer. there .removing pointer .0 ∙ sym (here .removing pointer .0);
@@ -129,32 +134,37 @@ module _ (s t : List ℕ) (there : DifferOnlyThere s t) where
     events : eventCount t (headerOf t) ≡ eventCount s (headerOf s)
     events = ap (eventCount t) header-same ∙ events-same s t (headerOf s) inside words-same
 
-    event-at : (p : ℕ) → eventAt t (headerOf t) p ≡ eventAt s (headerOf s) p
-    event-at p = ap (λ (h : Header). eventAt t h p) header-same ∙ event-same s t (headerOf s) inside words-same names-same p
+    event-at : (file : Option (List ℕ)) (p : ℕ) → eventAt file t (headerOf t) p ≡ eventAt file s (headerOf s) p
+    event-at file p = ap (λ (h : Header). eventAt file t h p) header-same ∙ event-same file s t (headerOf s) inside words-same names-same p
 
-    listing-text : (r : Reading) → listingText t (headerOf t) r ≡ listingText s (headerOf s) r
-    listing-text r = ap (λ (h : Header). listingText t h r) header-same ∙ listing-same s t (headerOf s) inside words-same names-same r
+    name-with : (file : Option (List ℕ)) (pointer : ℕ) → nameWith file t (headerOf t) pointer ≡ nameWith file s (headerOf s) pointer
+    name-with file pointer = ap (λ (h : Header). nameWith file t h pointer) header-same ∙ with-same file s t (headerOf s) inside words-same names-same pointer .0
 
-    line-text : (r : Reading) (p : ℕ) → lineAt t (headerOf t) r p ≡ lineAt s (headerOf s) r p
-    line-text r p = ap (λ (h : Header). lineAt t h r p) header-same ∙ line-same s t (headerOf s) inside words-same names-same r p
+    listing-text : (file : Option (List ℕ)) (r : Reading) → listingText file t (headerOf t) r ≡ listingText file s (headerOf s) r
+    listing-text file r = ap (λ (h : Header). listingText file t h r) header-same ∙ listing-same file s t (headerOf s) inside words-same names-same r
+
+    line-text : (file : Option (List ℕ)) (r : Reading) (p : ℕ) → lineAt file t (headerOf t) r p ≡ lineAt file s (headerOf s) r p
+    line-text file r p = ap (λ (h : Header). lineAt file t h r p) header-same ∙ line-same file s t (headerOf s) inside words-same names-same r p
 
     -- a search of the registry ends at the same entry
     entry-same : (w : Wanted) → lowestEntry w t (headerOf t) ≡ lowestEntry w s (headerOf s)
     entry-same w = ap (lowestEntry w t) header-same ∙ lowest-wanted s t (headerOf s) entries-same w
 
     both-passed : SameAnswers s t
-    unfolding checkOf eventOf nameBytes recording registering removing row20 row21 row22
+    unfolding checkOf findNameWith eventOf nameBytes recording registering removing row20 row21 row22
     both-passed = record {
       check = λ k. checkedBy (all-same k) (header-same k) (events k);
       name = registry .names;
-      event = λ p. ap₂ shownBy (then-same _ _ all-same (λ k. row25 p (events k) ∷ [])) (event-at p);
-      event-name = λ p. name-bytes p (firstBroken (eventRows s (headerOf s) p));
-      listing = λ r old new said.
+      name-with = λ file pointer. ap₂ foundBy (then-same _ _ {more = fileRows file} (registry .rows) refl) (name-with file pointer);
+      name-with-bytes = λ file pointer. found-bytes file pointer (firstBroken (findingRows file s (headerOf s)));
+      event = λ file p. ap₂ shownBy (then-same _ _ all-same (λ k. fileRows file ++ (row25 p (events k) ∷ []))) (event-at file p);
+      event-name = λ file p. name-bytes file p (firstBroken (eventRows file s (headerOf s) p));
+      listing = λ file r old new said.
           gave-same _ _ _ _ old new said
-          (then-same _ _ all-same (λ k. readingRows r (events k) ++ (row16 (length (listing-text r k)) (length old) ∷ []))) (listing-text r);
-      line = λ r p old new said.
+          (then-same _ _ all-same (λ k. termRows file r (events k) ++ (row16 (length (listing-text file r k)) (length old) ∷ []))) (listing-text file r);
+      line = λ file r p old new said.
           gave-same _ _ _ _ old new said
-          (then-same _ _ all-same (λ k. readingRows r (events k) ++ (row25 p (events k) ∷ row16 (length (line-text r p k)) (length old) ∷ []))) (line-text r p);
+          (then-same _ _ all-same (λ k. termRows file r (events k) ++ (row25 p (events k) ∷ row16 (length (line-text file r p k)) (length old) ∷ []))) (line-text file r p);
       recording = λ slot. ap₂ writing.outcomeBy (then-same _ _ rows-same refl) (ap currentSlot header-same);
       registering = λ object name.
           ap₂ writing.outcomeBy (then-same _ _ rows-same (λ k.
@@ -165,9 +175,15 @@ module _ (s t : List ℕ) (there : DifferOnlyThere s t) where
           ap₂ writing.outcomeBy (then-same _ _ rows-same (λ k. row 22 (not (ltb (entry-same (InUse pointer) k) (entryCount (header-same k)))) ∷ [])) (entry-same (InUse pointer));
     }
       where
-        name-bytes : (p : ℕ) (v : Verdict) → let was = nameShown (shownBy v (eventAt s (headerOf s) p)) in nameBytes t was ≡ nameBytes s was
-        name-bytes p (Refused f) = refl
-        name-bytes p Passed = event-name-same s t (headerOf s) inside words-same names-same p
+        found-bytes : (file : Option (List ℕ)) (pointer : ℕ) (v : Verdict)
+            → let was = nameFound (foundBy v (nameWith file s (headerOf s) pointer)) in nameBytes file t was ≡ nameBytes file s was
+        found-bytes file pointer (Refused f) = refl
+        found-bytes file pointer Passed = with-same file s t (headerOf s) inside words-same names-same pointer .1 file
+
+        name-bytes : (file : Option (List ℕ)) (p : ℕ) (v : Verdict)
+            → let was = nameShown (shownBy v (eventAt file s (headerOf s) p)) in nameBytes file t was ≡ nameBytes file s was
+        name-bytes file p (Refused f) = refl
+        name-bytes file p Passed = event-name-same file s t (headerOf s) inside words-same names-same p
 
 pub not-read : (s t : List ℕ) → DifferOnlyThere s t → SameAnswers s t
 not-read s t there = by (firstBroken (headerRows (headerOf s) (length s))) refl

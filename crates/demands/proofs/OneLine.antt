@@ -104,18 +104,20 @@ object-unbroken : (ps : List Part) → Each PlainPart ps → Unbroken (objectTex
 unfolding objectText
 object-unbroken ps plain = enclosed (omega arith) (omega arith) (parts-unbroken ps plain)
 
-pub line-unbroken : (l : Line) (n : Option (List ℕ)) → All (λ c. c ≡ 0x0A → ⊥) (objectText (parts l n))
-line-unbroken l n = object-unbroken (parts l n) (line-plain l n)
+module _ (l : Line) (event : Option (Option (List ℕ))) (n : Option (List ℕ)) where
+  pub line-unbroken : All (λ c. c ≡ 0x0A → ⊥) (objectText (parts l event n))
+  line-unbroken = object-unbroken (parts l event n) (line-plain l event n)
 
-line-ended : (l : Line) (n : Option (List ℕ)) → (body : List ℕ) × (line l n ≡ body ++ (0x0A ∷ [])) × Each (λ c. c ≡ 0x0A → ⊥) body
-unfolding line
-line-ended l n = (objectText (parts l n), refl, each-other (line-unbroken l n))
+  line-ended : (body : List ℕ) × (line l event n ≡ body ++ (0x0A ∷ [])) × Each (λ c. c ≡ 0x0A → ⊥) body
+  unfolding line
+  line-ended = (objectText (parts l event n), refl, each-other line-unbroken)
 
-pub one-line : (s : List ℕ) (h : Header) (r : Reading) (position : ℕ) → (body : List ℕ) × (lineAt s h r position ≡ body ++ (0x0A ∷ [])) × Each (λ c. c ≡ 0x0A → ⊥) body
+pub one-line : (file : Option (List ℕ)) (s : List ℕ) (h : Header) (r : Reading) (position : ℕ)
+    → (body : List ℕ) × (lineAt file s h r position ≡ body ++ (0x0A ∷ [])) × Each (λ c. c ≡ 0x0A → ⊥) body
 unfolding lineOf
-one-line s h r position = line-ended _ _
+one-line file s h r position = line-ended _ _ _
 
 -- no event, no line
-pub empty-ring : (s : List ℕ) (h : Header) (r : Reading) → eventCount s h ≡ 0 → listingText s h r ≡ []
+pub empty-ring : (file : Option (List ℕ)) (s : List ℕ) (h : Header) (r : Reading) → eventCount s h ≡ 0 → listingText file s h r ≡ []
 unfolding linesTo
-empty-ring s h r empty = rw empty
+empty-ring file s h r empty = rw empty

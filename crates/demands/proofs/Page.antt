@@ -3,12 +3,13 @@ use Prim.Native.Nat.{ℕ, zero, suc, _+_, _<_}
 use mathlib.Core.Bool.{Bool, true, false}
 use mathlib.Core.List.{List, [], _∷_, _++_, append-assoc}
 use mathlib.Core.Logic.{⊎-elim}
+use mathlib.Core.Option.{Option}
 use mathlib.Core.Path.{_≡_, refl, sym, ap, _∙_}
 use native.Mathlib.Nat.{add-zero, eq-or-lt-of-le, le-of-suc-le-suc, zero-add}
 use native.Mathlib.Omega.{arith}
 use borrow.Author.Tests.{eq-eqb, ne-eqb}
 use Rattle.events.specs.Events.{eventAt}
-use Rattle.events.specs.Listing.{fields, lineAt, lineOf, linesTo}
+use Rattle.events.specs.Listing.{fields, lineAt, lineOf, linesTo, titleIn}
 use Rattle.events.specs.declared.Reading.{Reading}
 use Rattle.text.specs.Ascii.{choose}
 use Rattle.text.specs.Lines.{Part, line, numeric, objectText, part, partText, parts, valueText}
@@ -34,41 +35,41 @@ unfolding behind
 from-behind {c} rest no-byte = rw (eq-eqb c c refl)
 from-behind {c} rest (byte {c = b} other more) = rw (ne-eqb b c other) (from-behind rest more)
 
-module _ (s : List ℕ) (h : Header) (r : Reading) where
+module _ (file : Option (List ℕ)) (s : List ℕ) (h : Header) (r : Reading) where
   -- a line without its 0A
   abbrev pub object : ℕ → List ℕ
-  object p = objectText (parts (fields r p (eventAt s h p)) (nameBytes s (eventAt s h p .name)))
+  object p = let event = eventAt file s h p in objectText (parts (fields r p event) (titleIn file s event) (nameBytes file s (event .name)))
 
-  ended : (p : ℕ) (rest : List ℕ) → lineAt s h r p ++ rest ≡ object p ++ (0x0A ∷ rest)
+  ended : (p : ℕ) (rest : List ℕ) → lineAt file s h r p ++ rest ≡ object p ++ (0x0A ∷ rest)
   unfolding lineOf line
   ended p rest = append-assoc (object p) (0x0A ∷ []) rest
 
   unbroken-object : (p : ℕ) → Without 0x0A (object p)
-  unbroken-object p = line-unbroken _ _
+  unbroken-object p = line-unbroken _ _ _
 
-  pub first-line : (p : ℕ) (rest : List ℕ) → lineIn (lineAt s h r p ++ rest) 0 ≡ object p
+  pub first-line : (p : ℕ) (rest : List ℕ) → lineIn (lineAt file s h r p ++ rest) 0 ≡ object p
   unfolding lineIn
   first-line p rest = rw (ended p rest) (up-to rest (unbroken-object p))
 
   -- n lines are passed over
-  lines-passed : (n p : ℕ) (rest : List ℕ) → lineIn (linesTo n s h r ++ rest) (n + p) ≡ lineIn rest p
+  lines-passed : (n p : ℕ) (rest : List ℕ) → lineIn (linesTo n file s h r ++ rest) (n + p) ≡ lineIn rest p
   unfolding linesTo lineIn
   lines-passed zero p rest = ap (lineIn rest) (zero-add p)
   lines-passed (suc n) p rest =
       let more : suc n + p ≡ n + suc p = omega arith in
-      rw (append-assoc (linesTo n s h r) (lineAt s h r n) rest)
-      (ap (lineIn (linesTo n s h r ++ (lineAt s h r n ++ rest))) more ∙ lines-passed n (suc p) (lineAt s h r n ++ rest)
+      rw (append-assoc (linesTo n file s h r) (lineAt file s h r n) rest)
+      (ap (lineIn (linesTo n file s h r ++ (lineAt file s h r n ++ rest))) more ∙ lines-passed n (suc p) (lineAt file s h r n ++ rest)
       ∙ ap (λ (t : List ℕ). lineIn t p) (rw (ended n rest) (from-behind rest (unbroken-object n))))
 
-  next-line : (n : ℕ) (rest : List ℕ) → lineIn (linesTo n s h r ++ (lineAt s h r n ++ rest)) n ≡ object n
-  next-line n rest = ap (lineIn (linesTo n s h r ++ (lineAt s h r n ++ rest))) (sym (add-zero n)) ∙ lines-passed n 0 (lineAt s h r n ++ rest) ∙ first-line n rest
+  next-line : (n : ℕ) (rest : List ℕ) → lineIn (linesTo n file s h r ++ (lineAt file s h r n ++ rest)) n ≡ object n
+  next-line n rest = ap (lineIn (linesTo n file s h r ++ (lineAt file s h r n ++ rest))) (sym (add-zero n)) ∙ lines-passed n 0 (lineAt file s h r n ++ rest) ∙ first-line n rest
 
-  pub line-found : (n p : ℕ) (rest : List ℕ) → p < n → lineIn (linesTo n s h r ++ rest) p ≡ object p
+  pub line-found : (n p : ℕ) (rest : List ℕ) → p < n → lineIn (linesTo n file s h r ++ rest) p ≡ object p
   unfolding linesTo
   line-found zero p rest below = absurd (omega arith)
   line-found (suc n) p rest below =
-      rw (append-assoc (linesTo n s h r) (lineAt s h r n) rest)
-      (⊎-elim (λ last. rw last (next-line n rest)) (line-found n p (lineAt s h r n ++ rest)) (eq-or-lt-of-le (le-of-suc-le-suc below)))
+      rw (append-assoc (linesTo n file s h r) (lineAt file s h r n) rest)
+      (⊎-elim (λ last. rw last (next-line n rest)) (line-found n p (lineAt file s h r n ++ rest)) (eq-or-lt-of-le (le-of-suc-le-suc below)))
 
 -- a number has no comma, so the key, which comes first, ends at one
 number-whole : (n : ℕ) → Without 0x2C (number n)
@@ -86,6 +87,6 @@ first-text : (k : ℕ) (p : Part) (ps : List Part) → keyText (objectText (part
 unfolding objectText partText valueText quoted
 first-text k p ps = rw (append-assoc (number k), append-assoc (number k)) (up-to _ (number-whole k))
 
-pub line-key : (s : List ℕ) (h : Header) (r : Reading) (p : ℕ) → keyText (object s h r p) ≡ number (keyAt r p)
+pub line-key : (file : Option (List ℕ)) (s : List ℕ) (h : Header) (r : Reading) (p : ℕ) → keyText (object file s h r p) ≡ number (keyAt r p)
 unfolding parts fields
-line-key s h r p = first-text _ _ _
+line-key file s h r p = first-text _ _ _

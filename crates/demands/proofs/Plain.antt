@@ -3,7 +3,7 @@ use Prim.Native.Nat.{ℕ, _+_, _%_, _≤_, _<_}
 use mathlib.Core.Bool.{Bool, true, false, and-eq-true-iff, cond, not, _&&_}
 use mathlib.Core.List.{List, [], _∷_, _++_}
 use mathlib.Core.Logic.{⊎-elim}
-use mathlib.Core.Option.{Option}
+use mathlib.Core.Option.{Option, none, some}
 use mathlib.Core.Path.{_≡_, refl}
 use native.Mathlib.Decide.{decLt}
 use native.Mathlib.Omega.{arith}
@@ -11,7 +11,7 @@ use lib.Dec.{eqb, leb, ltb}
 use borrow.Author.Tests.{eqb-false, leb-true, ltb-false, ltb-true, not-true}
 use Rattle.text.proofs.Digits.{by-tenths, digits-more, digits-one}
 use Rattle.text.proofs.Escapes.{by-kind, escape-high, escape-low}
-use Rattle.text.specs.Lines.{Part, Value, context, listed, named, numeric, parts, truth, word}
+use Rattle.text.specs.Lines.{Part, Value, context, eventParts, listed, named, numeric, parts, truth, word}
 use Rattle.text.specs.Names.{escape, hexDigit, hexed, slashed}
 use Rattle.text.specs.Numbers.{digit, digits}
 use Rattle.text.specs.declared.Context.{Context}
@@ -94,9 +94,10 @@ context-plain Isr = refl
 context-plain Thread = refl
 
 -- a line's parts pass it
-pub line-plain : (l : Line) (name : Option (List ℕ)) → Each PlainPart (parts l name)
-unfolding parts
-line-plain l name = plain-parts (parts l name) (rw (context-plain (l .by)))
+pub line-plain : (l : Line) (event : Option (Option (List ℕ))) (name : Option (List ℕ)) → Each PlainPart (parts l event name)
+unfolding eventParts parts
+line-plain l none name = plain-parts (parts l none name) (rw (context-plain (l .by)))
+line-plain l (some title) name = plain-parts (parts l (some title) name) (rw (context-plain (l .by)))
 
 -- a hex digit is a digit or a letter
 pub by-hex : (d : ℕ) (P : ℕ → Type 0) → (d < 10 → P (48 + d)) → (10 ≤ d → P (87 + d)) → P (hexDigit d)

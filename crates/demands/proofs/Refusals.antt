@@ -2,17 +2,21 @@
 use Prim.Native.Nat.{ℕ, _≤_}
 use mathlib.Core.Bool.{Bool, true, false, _&&_, cond, true≢false}
 use mathlib.Core.List.{List, [], _∷_, _++_}
+use mathlib.Core.Option as option
+use mathlib.Core.Option.{Option}
 use mathlib.Core.Path.{_≡_, refl, sym, ap, _∙_}
 use native.Mathlib.Omega.{arith}
 use lib.Dec.{ltb}
 use lib.ListN.{length}
 use borrow.Author.Tests.{le-ltb, lt-ltb, ltb-true}
-use Rattle.events.specs.Events.{eventAt, eventNumbers, eventOf, shownBy, shownTold, slotNumbers}
+use Rattle.events.specs.Events.{eventAt, eventNumbers, eventOf, eventRows, shownBy, shownTold, slotNumbers}
 use Rattle.events.specs.Listing.{Gave, listedBy, listedTold}
 use Rattle.events.specs.declared.Event.{Event}
 use Rattle.events.specs.declared.Listed.{Listed}
 use Rattle.mending.specs.Mending.{copyOf, mendOf, mendedBy, mendedTold, mendingRows, repairNumbers, repairsOf}
 use Rattle.mending.specs.declared.Repairs.{Repairs}
+use Rattle.naming.specs.Finding.{findNameWith, findingRows, nameWith}
+use Rattle.naming.specs.Records.{fileRows, row27}
 use Rattle.pieces.specs.Pieces.{finishRows, finished}
 use Rattle.rows.proofs.Rows.{one-kept, then-broken, then-refused, then-rest}
 use Rattle.rows.specs.Lent.{leftIn}
@@ -27,15 +31,15 @@ use Rattle.trace.specs.Layout.{bufferEnd, headerOf}
 use Rattle.trace.specs.Names.{findName, foundBy, foundTold, nameNumbers, nameOf}
 use Rattle.trace.specs.Ring.{numbersFrom}
 use Rattle.trace.specs.Slots.{eventCount}
-use Rattle.trace.specs.Table.{dumpRows, eventRows, layoutRows, registryRows, row16}
+use Rattle.trace.specs.Table.{dumpRows, layoutRows, registryRows, row16}
 use Rattle.trace.specs.declared.Header.{Header}
 use Rattle.trace.specs.declared.Name.{Name}
-use Rattle.trace.specs.declared.Name.the-variants.{Named, Nameless}
+use Rattle.trace.specs.declared.Name.the-variants.{Filed, Named, Nameless}
 use Rattle.words.specs.Each.{Each}
 use Rattle.writing.proofs.Opened.{open-writing-rows}
-use Rattle.writing.specs.Writing.{Change, formatting, left, outcomeBy, outcomeTold, recording, registering, removing, said}
+use Rattle.writing.specs.Writing.{Change, filing, formatting, left, outcomeBy, outcomeTold, recording, registering, removing, said}
 use Rattle.demands.specs.Demands.{FirstDemand, Writes}
-use Rattle.demands.specs.Refusals.{FirstBroken, Refuses, RefusesAndKeeps, Unbroken}
+use Rattle.demands.specs.Refusals.{FirstBroken, Refuses, RefusesAndKeeps, Unbroken, checksOf, dumpOrder, fileOrder, plain, registryOrder}
 use Rattle.demands.proofs.Cut.{cut, nonsense, only-cut, resumed, says-cut}
 use Rattle.demands.proofs.CutShort.{layout-passed}
 use Rattle.demands.proofs.EveryCall.{all-refused}
@@ -90,6 +94,17 @@ abbrev positive : List Row → Bool
 positive [] = true
 positive (r ∷ rows) = ltb 0 (r .number) && positive rows
 
+-- nor has one of a name file
+positive-alone : (file : Option (List ℕ)) → positive (fileRows file) ≡ true
+unfolding open-rows row27
+positive-alone option.none = refl
+positive-alone (option.some f) = refl
+
+positive-file : (file : Option (List ℕ)) (more : List Row) → positive more ≡ true → positive (fileRows file ++ more) ≡ true
+unfolding open-rows row27
+positive-file option.none more above = above
+positive-file (option.some f) more above = above
+
 positive-refusal : (rows : List Row) (f : Refusal) → positive rows ≡ true → firstBroken rows ≡ Refused f → 1 ≤ f .number
 positive-refusal rows f above refused =
     let first = first-found rows f refused in
@@ -130,6 +145,7 @@ name-some : (name : Name) → nameNumbers name ≡ [] → ⊥
 unfolding nameNumbers
 name-some Nameless none = some-value none
 name-some (Named kind at length) none = some-value none
+name-some (Filed at length) none = some-value none
 
 -- a number that is not 0 is that of a refusal
 told-refused : (v : Verdict) (values : List ℕ) → (toldBy v values .number ≡ 0 → ⊥) → (f : Refusal) × (v ≡ Refused f)
@@ -208,32 +224,50 @@ mended-room s room layout fits =
     sym (then-rest (layoutRows (headerOf s) (length s)) (row16 (bufferEnd (headerOf s)) room ∷ []) layout)
     ∙ one-kept (row16 (bufferEnd (headerOf s)) room) (le-ltb room (bufferEnd (headerOf s)) fits)
 
+-- a name file's rows stand where they are said to
+file-alone : (file : Option (List ℕ)) → checksOf (fileRows file) ≡ fileOrder file
+unfolding open-rows row27
+file-alone option.none = refl
+file-alone (option.some f) = refl
+
+file-checks : (file : Option (List ℕ)) (more : List Row) → checksOf (fileRows file ++ more) ≡ fileOrder file ++ checksOf more
+unfolding open-rows row27
+file-checks option.none more = refl
+file-checks (option.some f) more = refl
+
 pub first-demand : FirstDemand
 unfolding numbersFrom open-rows open-writing-rows
-    recording registering removing formatting mendOf checkOf finished findName eventOf headerNumbers eventNumbers slotNumbers
+    recording registering removing formatting filing mendOf checkOf finished findName findNameWith eventOf headerNumbers eventNumbers slotNumbers
 first-demand = record {
   orders = record {
     checking = λ s. refl;
     finding = λ s. refl;
-    event = λ s position. refl;
-    listing = λ s r room. refl;
-    line = λ s r position room. refl;
+    finding-with = λ file s. ap (λ (more : List Refusal). registryOrder s (headerOf s) ++ more) (file-alone file);
+    event = λ file s position. ap (λ (more : List Refusal). dumpOrder s (headerOf s) ++ more) (file-checks file _);
+    listing = λ file s r room. ap (λ (more : List Refusal). dumpOrder s (headerOf s) ++ plain (14 ∷ 15 ∷ []) ++ more) (file-checks file _);
+    line = λ file s r position room. ap (λ (more : List Refusal). dumpOrder s (headerOf s) ++ plain (14 ∷ 15 ∷ []) ++ more) (file-checks file _);
     recording = λ slot s. refl;
     registering = λ object name s. refl;
     removing = λ pointer s. refl;
     formatting = λ f s. refl;
     mending = λ s room. refl;
+    filing = λ subject number name offset s. refl;
   };
   checking = λ s. rw (checked-told (firstBroken (dumpRows s (headerOf s))) (headerOf s) (eventCount s (headerOf s))) (refuses (dumpRows s (headerOf s)) _ some-value refl);
   finding = λ s pointer. rw (found-told (firstBroken (registryRows s (headerOf s))) (nameOf s (headerOf s) pointer)) (refuses (registryRows s (headerOf s)) _ (name-some (nameOf s (headerOf s) pointer)) refl);
-  event = λ s position.
-      rw (shown-told (firstBroken (eventRows s (headerOf s) position)) (eventAt s (headerOf s) position)) (refuses (eventRows s (headerOf s) position) _ some-value refl);
-  listing = λ s r old new said gave. prints _ _ old new said refl gave;
-  line = λ s r position old new said gave. prints _ _ old new said refl gave;
+  finding-with = λ file s pointer.
+      rw (found-told (firstBroken (findingRows file s (headerOf s))) (nameWith file s (headerOf s) pointer))
+      (refuses (findingRows file s (headerOf s)) _ (name-some (nameWith file s (headerOf s) pointer)) (positive-alone file));
+  event = λ file s position.
+      rw (shown-told (firstBroken (eventRows file s (headerOf s) position)) (eventAt file s (headerOf s) position))
+      (refuses (eventRows file s (headerOf s) position) _ some-value (positive-file file _ refl));
+  listing = λ file s r old new said gave. prints _ _ old new said (positive-file file _ refl) gave;
+  line = λ file s r position old new said gave. prints _ _ old new said (positive-file file _ refl) gave;
   formatting = λ f s. writes (formatting f s) s refl;
   recording = λ slot s. writes (recording slot s) s refl;
   registering = λ object name s. writes (registering object name s) s refl;
   removing = λ pointer s. writes (removing pointer s) s refl;
+  filing = λ subject number name offset s. writes (filing subject number name offset s) s refl;
   mending = mends-or-keeps;
   mending-alike = λ s f refused. (all-refused s f (sym (then-refused (layoutRows (headerOf s) (length s)) _ f refused)), λ room. rw (sym (then-refused (layoutRows (headerOf s) (length s)) (row16 (bufferEnd (headerOf s)) room ∷ []) f refused)));
   mending-takes = λ s room begun there right.

@@ -8,6 +8,7 @@ use Rattle.demands.proofs.JsonNumbers.{line-numbers, listing-numbers}
 use Rattle.demands.proofs.Keys.{keys}
 use Rattle.demands.proofs.Layouts.{layouts}
 use Rattle.demands.proofs.Masks.{masks}
+use Rattle.demands.proofs.NameFiles.{name-files}
 use Rattle.demands.proofs.Names.{names}
 use Rattle.demands.proofs.NotRead.{appended, not-read}
 use Rattle.demands.proofs.OneLine.{empty-ring, one-line}
@@ -16,7 +17,7 @@ use Rattle.demands.proofs.Patterns.{patterns}
 use Rattle.demands.proofs.Offsets.{offsets}
 use Rattle.demands.proofs.Texts.{texts}
 use Rattle.demands.proofs.Turns.{turns}
-use Rattle.demands.proofs.Writings.{formatting-makes, recording-leaves, registering-leaves, removing-leaves, reusing-leaves}
+use Rattle.demands.proofs.Writings.{filing-leaves, formatting-makes, recording-leaves, registering-leaves, removing-leaves, reusing-leaves}
 
 pub second-demand : SecondDemand
 second-demand = record {
@@ -27,6 +28,7 @@ second-demand = record {
   turns = turns;
   order-and-time = order-and-time;
   names = names;
+  name-files = name-files;
   not-read = not-read;
   appended = appended;
   formats = formatting-makes;
@@ -34,15 +36,16 @@ second-demand = record {
   registers = registering-leaves;
   removes = removing-leaves;
   reuses = reusing-leaves;
+  files = filing-leaves;
   gives = gives;
-  listing = λ s r old new n. wrote _ _ old new n;
-  line = λ s r position old new n. wrote _ _ old new n;
+  listing = λ file s r old new n. wrote _ _ old new n;
+  line = λ file s r position old new n. wrote _ _ old new n;
   one-line = one-line;
   empty-ring = empty-ring;
   json = json-lines;
   texts = texts;
-  numbers = λ s r old new n gave. rw (wrote-front _ _ old new n gave) (listing-numbers s _ r);
-  line-numbers = λ s r position old new n gave. rw (wrote-front _ _ old new n gave) (line-numbers s _ r position);
+  numbers = λ file s r old new n gave. rw (wrote-front _ _ old new n gave) (listing-numbers file s _ r);
+  line-numbers = λ file s r position old new n gave. rw (wrote-front _ _ old new n gave) (line-numbers file s _ r position);
   bare-numbers = bare-numbers;
   keys = keys;
 }

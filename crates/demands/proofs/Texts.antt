@@ -17,8 +17,8 @@ texts = record {
   number-some = number-some;
   name-some = name-some;
   line-some = line-some;
-  line-bound = line-bound;
-  bound-most = bound-short;
+  line-bound = λ l event n. line-bound l n event;
+  bound-most = λ l event n. bound-short l n event;
   zero-said = λ text old new filled put. zero-said text old filled put refl;
   no-room = λ text old new answer put long. not-put text old long put;
   room = λ text old new answer put fits. let whole = is-put text old fits put in (whole .count, whole .bytes);

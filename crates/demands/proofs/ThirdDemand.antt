@@ -2,23 +2,25 @@
 use Prim.Native.Nat.{ℕ, zero, suc, _+_, _-_, _*_, _%_, _^_, _≤_, _<_, min}
 use mathlib.Core.List.{List, [], _∷_, _++_}
 use mathlib.Core.Logic.{⊎-elim}
+use mathlib.Core.Option.{Option}
 use mathlib.Core.Path.{_≡_, refl, sym, ap, _∙_, subst}
 use native.Mathlib.Nat.{add-suc, suc-add, zero-add, zero-min, zero-mod}
 use native.Mathlib.Omega.{arith}
 use borrow.Author.Tests.{le-ltb, lt-leb, ne-eqb}
 use lib.ListN.{drop, getD, length, length-drop}
-use Rattle.events.specs.Listing.{Gave, listingMore, listingRows, listingText}
+use Rattle.events.specs.Listing.{Gave, listingMore, listingRows, listingText, readingRows}
 use Rattle.events.specs.declared.Listed.{Listed}
 use Rattle.events.specs.declared.Listed.the-variants.{Written}
 use Rattle.events.specs.declared.Reading.{Reading}
-use Rattle.rows.proofs.Rows.{then-rest}
+use Rattle.naming.specs.Records.{fileRows}
+use Rattle.rows.proofs.Rows.{one-kept, then-rest}
 use Rattle.rows.specs.Rows.{Accepted, firstBroken}
 use Rattle.rows.specs.declared.Verdict.the-variants.{Passed}
 use Rattle.trace.proofs.Checks.{check-passed}
 use Rattle.trace.proofs.InTurn.{sound-turn}
 use Rattle.trace.proofs.Passed.{mask-wide}
 use Rattle.trace.specs.Layout.{headerOf, currentSlot}
-use Rattle.trace.specs.Slots.{slotIn}
+use Rattle.trace.specs.Slots.{eventCount, slotIn}
 use Rattle.trace.specs.Table.{dumpRows, row14, row15, row16}
 use Rattle.trace.specs.Times.{stampOf}
 use Rattle.trace.specs.declared.Checked.the-variants.{Sound}
@@ -102,18 +104,29 @@ module _ (mask k n : ℕ) (ws : List Write) (t : List ℕ) (some : 0 < n) (many 
       ∙ stamp-cut (headerOf t .mask) (getD (lastOf n ws) p noWrite .time) (mask-wide (headerOf t) (length t) _ passed)
       ∙ ap (λ (time : ℕ). time % range (headerOf t .mask)) (time-of (lastOf n ws) p)
 
-  accepts : (r : Reading) (room : ℕ) → ReadingAccepted r (min (length ws) n) → length (linesOf t r (lastOf n ws)) ≤ room → firstBroken (listingRows t (headerOf t) r room) ≡ Passed
-  unfolding firstBroken row14 row15 row16
-  accepts r room reading fits =
-      sym (then-rest (dumpRows t (headerOf t)) (listingMore t (headerOf t) r room) passed)
-      ∙ rw (text-is some holds r, count-is some holds, ne-eqb (r .rate) 0 (λ none. omega (arith, reading .rate)), lt-leb (2 ^ 24) (r .unit) (reading .unit), le-ltb (2 ^ 40) _ (reading .serial), le-ltb room _ fits)
+  reading-accepts : (r : Reading) → ReadingAccepted r (min (length ws) n) → Accepted (readingRows r (eventCount t (headerOf t)))
+  unfolding firstBroken row14 row15
+  reading-accepts r reading =
+      rw (count-is some holds, ne-eqb (r .rate) 0 (λ none. omega (arith, reading .rate)), lt-leb (2 ^ 24) (r .unit) (reading .unit), le-ltb (2 ^ 40) _ (reading .serial))
 
-  lists : (r : Reading) (old new : List ℕ) (answer : Listed) → ReadingAccepted r (min k n) → length (linesOf t r (lastOf n ws)) ≤ length old
-      → Gave (listingRows t (headerOf t) r (length old)) (listingText t (headerOf t) r) old new answer
-      → (answer ≡ Written (length (linesOf t r (lastOf n ws)))) × (new ≡ linesOf t r (lastOf n ws) ++ drop (length (linesOf t r (lastOf n ws))) old)
-  lists r old new answer reading fits gave =
-      let all = accepts r (length old) (subst (λ (k : ℕ). ReadingAccepted r (min k n)) (sym many) reading) fits in
-      (gave .answered ∙ rw (all, text-is some holds r), gave .output ∙ rw (all, text-is some holds r))
+  module _ (file : Option (List ℕ)) (r : Reading) where
+    abbrev text : List ℕ
+    text = linesOf file t r (lastOf n ws)
+
+    accepts : (room : ℕ) → ReadingAccepted r (min (length ws) n) → Accepted (fileRows file) → length text ≤ room → Accepted (listingRows file t (headerOf t) r room)
+    unfolding row16
+    accepts room reading right fits =
+        let last = row16 (length (listingText file t (headerOf t) r)) room in
+        sym (then-rest (dumpRows t (headerOf t)) (listingMore file t (headerOf t) r room) passed)
+        ∙ sym (then-rest (readingRows r (eventCount t (headerOf t))) (fileRows file ++ (last ∷ [])) (reading-accepts r reading))
+        ∙ sym (then-rest (fileRows file) (last ∷ []) right) ∙ one-kept last (rw (text-is some holds file r) (le-ltb room _ fits))
+
+    lists : (old new : List ℕ) (answer : Listed) → ReadingAccepted r (min k n) → Accepted (fileRows file) → length text ≤ length old
+        → Gave (listingRows file t (headerOf t) r (length old)) (listingText file t (headerOf t) r) old new answer
+        → (answer ≡ Written (length text)) × (new ≡ text ++ drop (length text) old)
+    lists old new answer reading right fits gave =
+        let all = accepts (length old) (subst (λ (k : ℕ). ReadingAccepted r (min k n)) (sym many) reading) right fits in
+        (gave .answered ∙ rw (all, text-is some holds file r), gave .output ∙ rw (all, text-is some holds file r))
 
   pub shows : Shows mask k n ws t
   shows = record {

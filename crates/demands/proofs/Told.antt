@@ -1,7 +1,7 @@
 -- An answer is read back of what it tells: a refusal gives no value, and an acceptance some.
 use Prim.Native.Nat.{ℕ}
 use mathlib.Core.Bool.{cond}
-use mathlib.Core.List.{List, [], _∷_}
+use mathlib.Core.List.{List, [], _∷_, _++_}
 use mathlib.Core.Path.{_≡_, refl, sym, ap, _∙_}
 use lib.Dec.{eqb}
 use lib.ListN.{getD}
@@ -25,7 +25,7 @@ use Rattle.trace.specs.declared.Checked.the-variants as checked
 use Rattle.trace.specs.declared.Found.{Found}
 use Rattle.trace.specs.declared.Found.the-variants as found
 use Rattle.trace.specs.declared.Name.{Name}
-use Rattle.trace.specs.declared.Name.the-variants.{Named, Nameless}
+use Rattle.trace.specs.declared.Name.the-variants.{Filed, Named, Nameless}
 use Rattle.trace.specs.declared.ThreadKind.the-variants.{Gone, Live}
 use Rattle.words.specs.declared.Order.{Order}
 use Rattle.words.specs.declared.Order.the-variants.{Big, Little}
@@ -61,13 +61,29 @@ context-back Isr = refl
 context-back Thread = refl
 
 nameFrom : ℕ → ℕ → ℕ → Name
-nameFrom kind at length = cond (eqb kind 0) Nameless (Named (cond (eqb kind 1) Live Gone) at length)
+nameFrom kind at length = cond (eqb kind 0) Nameless (cond (eqb kind 3) (Filed at length) (Named (cond (eqb kind 1) Live Gone) at length))
 
 name-back : (name : Name) → nameFrom (getD (nameNumbers name) 0 0) (getD (nameNumbers name) 1 0) (getD (nameNumbers name) 2 0) ≡ name
 unfolding kindNumber nameNumbers nameFrom
 name-back Nameless = refl
 name-back (Named Live at length) = refl
 name-back (Named Gone at length) = refl
+name-back (Filed at length) = refl
+
+-- of two names one after another, the first and the second
+first-back : (name : Name) (more : List ℕ) → nameFrom (getD (nameNumbers name ++ more) 0 0) (getD (nameNumbers name ++ more) 1 0) (getD (nameNumbers name ++ more) 2 0) ≡ name
+unfolding kindNumber nameNumbers nameFrom
+first-back Nameless more = refl
+first-back (Named Live at length) more = refl
+first-back (Named Gone at length) more = refl
+first-back (Filed at length) more = refl
+
+second-back : (name title : Name)
+    → let numbers = nameNumbers name ++ nameNumbers title in nameFrom (getD numbers 3 0) (getD numbers 4 0) (getD numbers 5 0) ≡ title
+unfolding nameNumbers
+second-back Nameless title = name-back title
+second-back (Named kind at length) title = name-back title
+second-back (Filed at length) title = name-back title
 
 checkedFrom : Told → Checked
 checkedFrom t = unless checked.Refused (λ t. checked.Sound (record {
@@ -97,6 +113,7 @@ found-back (found.Refused f) = refl
 found-back (found.Searched Nameless) = refl
 found-back (found.Searched (Named Live at length)) = refl
 found-back (found.Searched (Named Gone at length)) = refl
+found-back (found.Searched (Filed at length)) = refl
 
 shownFrom : Told → Shown
 shownFrom t = unless shown.Refused (λ t. shown.Given (record {
@@ -104,12 +121,13 @@ shownFrom t = unless shown.Refused (λ t. shown.Given (record {
   ticks = valueAt t 8;
   by = contextFrom (valueAt t 9);
   name = nameFrom (valueAt t 10) (valueAt t 11) (valueAt t 12);
+  title = nameFrom (valueAt t 13) (valueAt t 14) (valueAt t 15);
 })) t (t .values)
 
 shown-back : (x : Shown) → shownFrom (shownTold x) ≡ x
 unfolding shownFrom shownTold eventNumbers slotNumbers
 shown-back (shown.Refused f) = refl
-shown-back (shown.Given e) = rw (context-back (e .by), name-back (e .name))
+shown-back (shown.Given e) = rw (context-back (e .by), first-back (e .name), second-back (e .name) (e .title))
 
 listedFrom : Told → Listed
 listedFrom t = unless listed.Refused (λ t. listed.Written (valueAt t 0)) t (t .values)

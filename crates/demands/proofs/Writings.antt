@@ -1,23 +1,32 @@
 -- The calls that write do what a user may ask of them, by the laws of writing.
-use Prim.Native.Nat.{ℕ, suc, _^_, _<_, min}
+use Prim.Native.Nat.{ℕ, suc, _+_, _^_, _≤_, _<_, min}
 use mathlib.Core.List.{List}
 use mathlib.Core.Path.{_≡_, sym, ap, _∙_}
+use borrow.Author.Tests.{ltb-false}
 use lib.ListN.{length}
+use lib.Seq.{length-sets, sets}
+use Rattle.naming.proofs.ReadBack.{record-length}
+use Rattle.naming.specs.Writing.{recordBytes, recordSize, row28}
+use Rattle.naming.specs.declared.Subject.{Subject}
+use Rattle.rows.proofs.Rows.{further, here, unbroken}
 use Rattle.rows.specs.Rows.{Accepted}
-use Rattle.trace.specs.Layout.{headerOf, currentSlot, slotCount, withCurrent}
+use Rattle.trace.specs.Layout.{headerOf, currentSlot, mostBytes, slotCount, withCurrent}
+use Rattle.trace.specs.Table.{row16}
 use Rattle.trace.specs.declared.Checked.the-variants.{Sound}
 use Rattle.trace.specs.declared.Header.{Header}
 use Rattle.trace.specs.declared.Slot.{Slot}
+use Rattle.words.proofs.Laws.{sets-other}
+use Rattle.words.proofs.Runs.{run-back}
 use Rattle.writing.proofs.Fresh.{current-fresh, fresh-bytes, fresh-entries, fresh-free, fresh-header, fresh-leftover, fresh-most, fresh-nobody, fresh-one-each, fresh-slots, fresh-some, fresh-sound, fresh-size}
 use Rattle.writing.proofs.Recorded.{recorded-current, recorded-header, recorded-names, recorded-one-each, recorded-others, recorded-slot, recorded-sound, recorded-size, recorded-untouched}
 use Rattle.writing.proofs.Registered.{registered-bytes, registered-entry, registered-events, registered-found, registered-header, registered-one-each, registered-others, registered-reused, registered-sound, registered-size, registered-untouched, registered-in-use, registered-type}
 use Rattle.writing.proofs.Removed.{removed-events, removed-free, removed-gone, removed-header, removed-one-each, removed-others, removed-still, removed-sound, removed-size, removed-untouched, removed-freed}
 use Rattle.writing.proofs.Reused.{reused-name}
 use Rattle.writing.specs.Arguments.{IsSlot}
-use Rattle.writing.specs.Writing.{formatting, freshEnd, freshHeader, left, nextPointer, recording, registering, removing}
+use Rattle.writing.specs.Writing.{filing, formatting, freshEnd, freshHeader, left, nextPointer, recording, registering, removing}
 use Rattle.writing.specs.declared.Format.{Format}
 use Rattle.writing.specs.declared.Object.{Object}
-use Rattle.demands.specs.Writings.{Formatted, Recorded, Registered, Removed, Reused}
+use Rattle.demands.specs.Writings.{Filed, Formatted, Recorded, Registered, Removed, Reused}
 
 pub formatting-makes : (f : Format) (s : List ℕ) → f .base < 2 ^ 32 → Accepted (formatting f s .rows)
     → Formatted f s (left (formatting f s) s) (freshHeader f (freshEnd f (length s)))
@@ -89,3 +98,25 @@ removing-leaves pointer s accepted = record {
 pub reusing-leaves : (pointer : ℕ) (object : Object) (name s : List ℕ) → object .pointer < 2 ^ 32 → Accepted (removing pointer s .rows)
     → Accepted (registering object name (left (removing pointer s) s) .rows) → Reused pointer object name s
 reusing-leaves pointer object name s word removed registered sound only = reused-name pointer object name s removed registered word sound (only .0) (only .1)
+
+pub filing-leaves : (subject : Subject) (number : ℕ) (name : List ℕ) (offset : ℕ) (s : List ℕ) → Accepted (filing subject number name offset s .rows)
+    → Filed subject number name offset s (left (filing subject number name offset s) s)
+unfolding filing row16 row28
+filing-leaves subject number name offset s accepted = record {
+  within = (room, ltb-false mostBytes (offset + recordSize name) (unbroken accepted (row28 (offset + recordSize name)) here));
+  bytes = rw stored (rw long at (run-back bytes s offset (rw long room)));
+  size = rw stored (length-sets s offset bytes);
+  untouched = λ i aside. rw stored (sets-other bytes s offset i (rw long aside));
+}
+  where
+    bytes : List ℕ
+    bytes = recordBytes subject number name
+
+    long : length bytes ≡ recordSize name
+    long = record-length subject number name
+
+    stored : left (filing subject number name offset s) s ≡ sets s offset bytes
+    stored = rw accepted
+
+    room : offset + recordSize name ≤ length s
+    room = ltb-false (length s) (offset + recordSize name) (unbroken accepted (row16 (offset + recordSize name) (length s)) (further here))

@@ -3,16 +3,21 @@ use Prim.Native.Nat.{ℕ, zero, suc, min}
 use mathlib.Core.Bool.{true, false, true≢false}
 use mathlib.Core.List.{List, [], _∷_, _++_}
 use mathlib.Core.Logic.{inl}
+use mathlib.Core.Option.{Option, some}
 use mathlib.Core.Path.{_≡_, refl, sym, ap, _∙_}
 use native.Mathlib.Omega.{arith}
 use lib.ListN.{getD, length, replicate, set, take}
 use Rattle.events.specs.declared.Reading.{Reading}
+use Rattle.naming.specs.Records.{fileRows, isSoughtAt, kindOf, nameIn, recordAt, recordName, row27}
+use Rattle.naming.specs.Writing.{recordBytes}
+use Rattle.naming.specs.declared.Subject.the-variants.{Event}
 use Rattle.rows.specs.Rows.{Accepted}
+use Rattle.text.specs.Lines.{nameSize}
 use Rattle.text.specs.Numbers.{digits, digitsIn}
 use Rattle.trace.proofs.Checks.{check-events, check-passed}
 use Rattle.trace.specs.Check.{checkOf, checkedTold}
 use Rattle.trace.specs.Layout.{entryCount, headerOf, registryEnd, slotCount}
-use Rattle.trace.specs.Names.{findName, isNamed, nameFound, nameIfEntry, nameOf, threadName}
+use Rattle.trace.specs.Names.{findName, isNamed, nameBytes, nameFound, nameIfEntry, nameOf, threadName}
 use Rattle.trace.specs.Ring.{fromCurrent, keep, numbersFrom, oldestFirst}
 use Rattle.trace.specs.Table.{beforeEnds, registryRows, row4}
 use Rattle.trace.specs.Times.{microseconds, stampOf}
@@ -34,7 +39,7 @@ use Rattle.demands.specs.Masks.{range}
 use Rattle.demands.specs.Refusals.{givenAt}
 use Rattle.demands.specs.Shown.{ReadingAccepted}
 use Rattle.demands.specs.WholeCase.{fourthWrite, middle, newest, oldest, pump, wholeDump, wholeHeader}
-use Rattle.demands.specs.Wrong.{AlwaysAppended, AlwaysExact, CountGrows, CutOnce, MicrosecondsBare, NameLost, NonsenseCut, OthersKept, SerialsTouch, StampsRise, Wrong}
+use Rattle.demands.specs.Wrong.{AlwaysAppended, AlwaysExact, CountGrows, CutOnce, LastCounts, MicrosecondsBare, NameLost, NonsenseCut, OthersKept, SerialsTouch, StampsRise, Wrong}
 use Rattle.demands.proofs.BareNumbers.{bare-numbers}
 use Rattle.demands.proofs.Starred.{starred}
 use Rattle.demands.proofs.ThirdDemand.{third-demand}
@@ -86,6 +91,10 @@ apart = writeAt 0 ∷ writeAt 65536 ∷ []
 abbrev calls : List Call
 calls = write (writeAt 0) ∷ write (writeAt 65536) ∷ []
 
+-- a name file with two names for one event, the second of them empty
+abbrev named-twice : Option (List ℕ)
+named-twice = some (recordBytes Event 7 (0x41 ∷ []) ++ recordBytes Event 7 [])
+
 -- what computes
 record Computed : Type 0 where
   oldest-stamp : stampOf whole (headerOf whole) 0 ≡ 65500
@@ -115,10 +124,12 @@ record Computed : Type 0 where
   not-whole : checkOf nonsense ≡ Refused (givenAt 7 0)
   registry-cut : checkOf upload ≡ Refused (givenAt 26 12)
   slots-cut : checkOf (upload ++ replicate 12 0) ≡ Refused (givenAt 26 96)
+  right : Accepted (fileRows named-twice)
+  first-name : nameBytes named-twice [] (nameIn Event named-twice 7) ≡ some (0x41 ∷ [])
 
 computed : Computed
-unfolding open-writing pump middle newest oldest wholeDump wholeHeader fromCurrent keep numbersFrom oldestFirst digits digitsIn microseconds given fourthWrite twoSlots blank writeAt queue findName nameIfEntry nameOf threadName
-computed = record { oldest-stamp = refl; next-stamp = refl; first-digit = refl; no-mask = refl; slot-1 = refl; fifth = refl; header = refl; three = refl; two = refl; accepted = refl; range-is = refl; one-range = refl; gone = refl; one-entry = refl; removal = refl; typed = refl; pump-gone = refl; taken = refl; pump-lost = refl; short = refl; longer = refl; begun = refl; came = refl; beyond = refl; not-whole = refl; registry-cut = refl; slots-cut = refl }
+unfolding open-writing pump middle newest oldest wholeDump wholeHeader fromCurrent keep numbersFrom oldestFirst digits digitsIn microseconds given fourthWrite twoSlots blank writeAt queue findName nameIfEntry nameOf threadName isSoughtAt kindOf nameBytes nameIn recordAt recordName row27
+computed = record { oldest-stamp = refl; next-stamp = refl; first-digit = refl; no-mask = refl; slot-1 = refl; fifth = refl; header = refl; three = refl; two = refl; accepted = refl; range-is = refl; one-range = refl; gone = refl; one-entry = refl; removal = refl; typed = refl; pump-gone = refl; taken = refl; pump-lost = refl; short = refl; longer = refl; begun = refl; came = refl; beyond = refl; not-whole = refl; registry-cut = refl; slots-cut = refl; right = refl; first-name = refl }
 
 by-stamp : StampsRise → ⊥
 by-stamp wrong =
@@ -187,6 +198,11 @@ exact wrong =
     rise zero below = omega arith
     rise (suc i) below = absurd (omega arith)
 
+counting-last : LastCounts → ⊥
+counting-last wrong =
+    let last = wrong Event 7 (0x41 ∷ []) [] [] (computed .right) in
+    omega (arith, ap nameSize (sym (computed .first-name) ∙ last))
+
 pub wrong : Wrong
 wrong = record {
   stamps-rise = by-stamp;
@@ -202,4 +218,5 @@ wrong = record {
   nonsense-cut = saying-cut;
   cut-once = cutting;
   always-exact = exact;
+  last-counts = counting-last;
 }

@@ -1,15 +1,19 @@
 -- The three demands, each sentence in quotes above what states it.
 use Prim.Native.Nat.{ℕ, suc, _+_, _*_, _^_, _≤_, _<_, min}
 use mathlib.Core.List.{List, [], _∷_, _++_, map}
+use mathlib.Core.Option.{Option}
 use mathlib.Core.Path.{_≡_}
 use lib.ListN.{drop, length, take}
-use Rattle.events.specs.Events.{eventAt, eventOf, shownTold}
+use Rattle.events.specs.Events.{eventAt, eventOf, eventRows, shownTold}
 use Rattle.events.specs.Listing.{Gave, fields, lineAt, lineRows, listedTold, listingRows, listingText}
 use Rattle.events.specs.declared.Listed.{Listed}
 use Rattle.events.specs.declared.Listed.the-variants as listed
 use Rattle.events.specs.declared.Reading.{Reading}
 use Rattle.mending.specs.Mending.{copyOf, mendOf, mendedTold, mendingRows}
 use Rattle.mending.specs.declared.Mended.the-variants as mended
+use Rattle.naming.specs.Finding.{findNameWith, findingRows}
+use Rattle.naming.specs.Records.{fileRows}
+use Rattle.naming.specs.declared.Subject.{Subject}
 use Rattle.pieces.specs.Pieces.{finishRows, finished}
 use Rattle.pieces.specs.declared.Pieces.{Pieces}
 use Rattle.rows.specs.Lent.{leftIn}
@@ -22,14 +26,14 @@ use Rattle.trace.specs.Layout.{bufferEnd, headerOf, mostBytes}
 use Rattle.trace.specs.Names.{findName, foundTold}
 use Rattle.trace.specs.Ring.{keep}
 use Rattle.trace.specs.Slots.{eventCount}
-use Rattle.trace.specs.Table.{beforeEnds, dumpRows, eventRows, headerRows, layoutRows, registryRows}
+use Rattle.trace.specs.Table.{beforeEnds, dumpRows, headerRows, layoutRows, registryRows}
 use Rattle.trace.specs.declared.Checked.the-variants as checked
 use Rattle.trace.specs.declared.Header.{Header}
 use Rattle.trace.specs.declared.Slot.{Slot}
 use Rattle.words.specs.Each.{Each}
 use Rattle.words.specs.Words.{AreBytes}
 use Rattle.writing.specs.Arguments.{IsSlot}
-use Rattle.writing.specs.Writing.{Change, formatting, freshEnd, freshHeader, left, outcomeTold, recording, registering, removing, said}
+use Rattle.writing.specs.Writing.{Change, filing, formatting, freshEnd, freshHeader, left, outcomeTold, recording, registering, removing, said}
 use Rattle.writing.specs.declared.Format.{Format}
 use Rattle.writing.specs.declared.Object.{Object}
 use Rattle.writing.specs.declared.Outcome.the-variants as outcome
@@ -43,6 +47,7 @@ use Rattle.demands.specs.JsonNumbers.{jsonNumbers, listedNumbers, number
 use Rattle.demands.specs.Keys.{Keys}
 use Rattle.demands.specs.Layouts.{Layouts}
 use Rattle.demands.specs.Masks.{Masks, range}
+use Rattle.demands.specs.NameFiles.{NameFiles}
 use Rattle.demands.specs.Names.{Names}
 use Rattle.demands.specs.NotRead.{DifferOnlyThere, SameAnswers, Whole}
 use Rattle.demands.specs.Offsets.{Offsets}
@@ -53,7 +58,7 @@ use Rattle.demands.specs.Refusals.{Orders, Refuses, RefusesAndKeeps, giv
 use Rattle.demands.specs.Shown.{ReadingAccepted, linesOf, shownMicroseconds, shownTicks}
 use Rattle.demands.specs.Texts.{Texts}
 use Rattle.demands.specs.Turns.{Turns}
-use Rattle.demands.specs.Writings.{Formatted, Recorded, Registered, Removed, Reused}
+use Rattle.demands.specs.Writings.{Filed, Formatted, Recorded, Registered, Removed, Reused}
 
 -- THE FIRST DEMAND
 
@@ -67,22 +72,24 @@ Writes c s = RefusesAndKeeps (c .rows) s (left c s) (outcomeTold (said c))
 pub record FirstDemand : Type 0 where
   -- the rows that each call checks, by their numbers and places
   pub orders : Orders
-  -- calls that are lent a dump to be read
+  -- calls that are lent a dump to be read, and maybe a name file (document 02, A7)
   pub checking : (s : List ℕ) → Refuses (dumpRows s (headerOf s)) (checkedTold (checkOf s))
   pub finding : (s : List ℕ) (pointer : ℕ) → Refuses (registryRows s (headerOf s)) (foundTold (findName s pointer))
-  pub event : (s : List ℕ) (position : ℕ) → Refuses (eventRows s (headerOf s) position) (shownTold (eventOf s position))
+  pub finding-with : (file : Option (List ℕ)) (s : List ℕ) (pointer : ℕ) → Refuses (findingRows file s (headerOf s)) (foundTold (findNameWith file s pointer))
+  pub event : (file : Option (List ℕ)) (s : List ℕ) (position : ℕ) → Refuses (eventRows file s (headerOf s) position) (shownTold (eventOf file s position))
   -- calls that are lent output too
-  pub listing : (s : List ℕ) (r : Reading) (old new : List ℕ) (answer : Listed)
-      → Gave (listingRows s (headerOf s) r (length old)) (listingText s (headerOf s) r) old new answer
-      → RefusesAndKeeps (listingRows s (headerOf s) r (length old)) old new (listedTold answer)
-  pub line : (s : List ℕ) (r : Reading) (position : ℕ) (old new : List ℕ) (answer : Listed)
-      → Gave (lineRows s (headerOf s) r position (length old)) (lineAt s (headerOf s) r position) old new answer
-      → RefusesAndKeeps (lineRows s (headerOf s) r position (length old)) old new (listedTold answer)
+  pub listing : (file : Option (List ℕ)) (s : List ℕ) (r : Reading) (old new : List ℕ) (answer : Listed)
+      → Gave (listingRows file s (headerOf s) r (length old)) (listingText file s (headerOf s) r) old new answer
+      → RefusesAndKeeps (listingRows file s (headerOf s) r (length old)) old new (listedTold answer)
+  pub line : (file : Option (List ℕ)) (s : List ℕ) (r : Reading) (position : ℕ) (old new : List ℕ) (answer : Listed)
+      → Gave (lineRows file s (headerOf s) r position (length old)) (lineAt file s (headerOf s) r position) old new answer
+      → RefusesAndKeeps (lineRows file s (headerOf s) r position (length old)) old new (listedTold answer)
   -- calls that are lent a buffer to be written
   pub formatting : (f : Format) (s : List ℕ) → Writes (formatting f s) s
   pub recording : (slot : Slot) (s : List ℕ) → Writes (recording slot s) s
   pub registering : (object : Object) (name s : List ℕ) → Writes (registering object name s) s
   pub removing : (pointer : ℕ) (s : List ℕ) → Writes (removing pointer s) s
+  pub filing : (subject : Subject) (number : ℕ) (name : List ℕ) (offset : ℕ) (s : List ℕ) → Writes (filing subject number name offset s) s
   -- mending, which is lent a second buffer for the copy (document 02, A2)
   pub mending : (s old : List ℕ)
       → let rows = mendingRows s (headerOf s) (length old) in
@@ -120,6 +127,8 @@ pub record SecondDemand : Type 0 where
   pub turns : (s : List ℕ) (h : Header) → Turns s h
   pub order-and-time : (s : List ℕ) (h : Header) → Accepted (dumpRows s h) → OrderAndTime s h
   pub names : (s : List ℕ) → Names s
+  -- names from the build (document 02, A7)
+  pub name-files : NameFiles
   -- reserved fields and bytes past the buffer end are not read
   pub not-read : (s t : List ℕ) → DifferOnlyThere s t → SameAnswers s t
   -- so bytes appended past both ends change no answer of the calls that read, nor what recording, registering and removing say, as long as the whole
@@ -134,32 +143,34 @@ pub record SecondDemand : Type 0 where
   pub removes : (pointer : ℕ) (s : List ℕ) → Accepted (removing pointer s .rows) → Removed pointer s (left (removing pointer s) s) (headerOf s)
   pub reuses : (pointer : ℕ) (object : Object) (name s : List ℕ) → object .pointer < 2 ^ 32 → Accepted (removing pointer s .rows)
       → Accepted (registering object name (left (removing pointer s) s) .rows) → Reused pointer object name s
+  pub files : (subject : Subject) (number : ℕ) (name : List ℕ) (offset : ℕ) (s : List ℕ) → Accepted (filing subject number name offset s .rows)
+      → Filed subject number name offset s (left (filing subject number name offset s) s)
   -- what the calls give
   pub gives : Gives
   -- "The listing is the one text that 01 defines,": its length is given, it stands in the output, and output past it keeps its bytes
-  pub listing : (s : List ℕ) (r : Reading) (old new : List ℕ) (n : ℕ)
-      → let text = listingText s (headerOf s) r in
-      Gave (listingRows s (headerOf s) r (length old)) text old new (listed.Written n) → (n ≡ length text) × (new ≡ text ++ drop n old)
-  pub line : (s : List ℕ) (r : Reading) (position : ℕ) (old new : List ℕ) (n : ℕ)
-      → let text = lineAt s (headerOf s) r position in
-      Gave (lineRows s (headerOf s) r position (length old)) text old new (listed.Written n) → (n ≡ length text) × (new ≡ text ++ drop n old)
+  pub listing : (file : Option (List ℕ)) (s : List ℕ) (r : Reading) (old new : List ℕ) (n : ℕ)
+      → let text = listingText file s (headerOf s) r in
+      Gave (listingRows file s (headerOf s) r (length old)) text old new (listed.Written n) → (n ≡ length text) × (new ≡ text ++ drop n old)
+  pub line : (file : Option (List ℕ)) (s : List ℕ) (r : Reading) (position : ℕ) (old new : List ℕ) (n : ℕ)
+      → let text = lineAt file s (headerOf s) r position in
+      Gave (lineRows file s (headerOf s) r position (length old)) text old new (listed.Written n) → (n ≡ length text) × (new ≡ text ++ drop n old)
   -- each line is ended by byte 0A and has no other; an empty ring gives no bytes
-  pub one-line : (s : List ℕ) (h : Header) (r : Reading) (position : ℕ)
-      → (body : List ℕ) × (lineAt s h r position ≡ body ++ (0x0A ∷ [])) × Each (λ c. c ≡ 0x0A → ⊥) body
-  pub empty-ring : (s : List ℕ) (h : Header) (r : Reading) → eventCount s h ≡ 0 → listingText s h r ≡ []
-  -- "JSON is RFC 8259.": each line without its 0A is an object by its grammar, with the members of document 01 and "gone", and the numbers of a text are
-  -- those that `jsonNumbers` finds
+  pub one-line : (file : Option (List ℕ)) (s : List ℕ) (h : Header) (r : Reading) (position : ℕ)
+      → (body : List ℕ) × (lineAt file s h r position ≡ body ++ (0x0A ∷ [])) × Each (λ c. c ≡ 0x0A → ⊥) body
+  pub empty-ring : (file : Option (List ℕ)) (s : List ℕ) (h : Header) (r : Reading) → eventCount s h ≡ 0 → listingText file s h r ≡ []
+  -- "JSON is RFC 8259.": each line without its 0A is an object by its grammar, with the members of document 01, "gone" and, with a name file, "event", and the
+  -- numbers of a text are those that `jsonNumbers` finds
   pub json : JsonLines
   -- what is printed reads back
   pub texts : Texts
   -- "and no whole number at or above two to the fifty-third leaves as a JSON number." (document 02, A3): in what was written, the JSON numbers are the
   -- digits of the lines' bare numbers, in their order, and nothing else
-  pub numbers : (s : List ℕ) (r : Reading) (old new : List ℕ) (n : ℕ)
-      → Gave (listingRows s (headerOf s) r (length old)) (listingText s (headerOf s) r) old new (listed.Written n)
-      → jsonNumbers (take n new) ≡ map digits (keep isBare (listedNumbers s (headerOf s) r))
-  pub line-numbers : (s : List ℕ) (r : Reading) (position : ℕ) (old new : List ℕ) (n : ℕ)
-      → Gave (lineRows s (headerOf s) r position (length old)) (lineAt s (headerOf s) r position) old new (listed.Written n)
-      → jsonNumbers (take n new) ≡ map digits (keep isBare (numbersOf (fields r position (eventAt s (headerOf s) position))))
+  pub numbers : (file : Option (List ℕ)) (s : List ℕ) (r : Reading) (old new : List ℕ) (n : ℕ)
+      → Gave (listingRows file s (headerOf s) r (length old)) (listingText file s (headerOf s) r) old new (listed.Written n)
+      → jsonNumbers (take n new) ≡ map digits (keep isBare (listedNumbers file s (headerOf s) r))
+  pub line-numbers : (file : Option (List ℕ)) (s : List ℕ) (r : Reading) (position : ℕ) (old new : List ℕ) (n : ℕ)
+      → Gave (lineRows file s (headerOf s) r position (length old)) (lineAt file s (headerOf s) r position) old new (listed.Written n)
+      → jsonNumbers (take n new) ≡ map digits (keep isBare (numbersOf (fields r position (eventAt file s (headerOf s) position))))
   -- a bare number is below two to the fifty-third, and no other number has its double
   pub bare-numbers : BareNumbers
   -- events have keys of their own, also as a page reads them
@@ -172,11 +183,11 @@ pub record Shows (mask k n : ℕ) (writes : List Write) (t : List ℕ) : Type 0 
   -- the dump passes the whole check
   pub passes : checkOf t ≡ checked.Sound (headerOf t) (min k n)
   -- "A reading whose rate, unit, serial and output room are accepted then lists the last min(k, n) events, oldest first, with pointer, field, id and
-  -- information words as written."
-  pub lists : (r : Reading) (old new : List ℕ) (answer : Listed) → ReadingAccepted r (min k n)
-      → let text = linesOf t r (lastOf n writes) in
+  -- information words as written." "Demand 3 from now on also asks that the file, where one is given, is accepted." (document 02, A7)
+  pub lists : (file : Option (List ℕ)) (r : Reading) (old new : List ℕ) (answer : Listed) → ReadingAccepted r (min k n) → Accepted (fileRows file)
+      → let text = linesOf file t r (lastOf n writes) in
       length text ≤ length old
-      → Gave (listingRows t (headerOf t) r (length old)) (listingText t (headerOf t) r) old new answer
+      → Gave (listingRows file t (headerOf t) r (length old)) (listingText file t (headerOf t) r) old new answer
       → (answer ≡ listed.Written (length text)) × (new ≡ text ++ drop (length text) old)
   -- "A true gap is the difference of the true times of two neighbouring listed events." (`trueGap`)
   -- "For each event, the shown ticks plus the timer range times the whole ranges contained in each true gap from the oldest listed event up to it, summed,

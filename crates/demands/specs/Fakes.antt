@@ -2,6 +2,7 @@
 use Prim.Native.Nat.{ℕ}
 use mathlib.Core.Bool.{cond}
 use mathlib.Core.List.{List, []}
+use mathlib.Core.Option.{none}
 use mathlib.Core.Path.{_≡_}
 use lib.Dec.{eqb}
 use lib.ListN.{length}
@@ -30,8 +31,8 @@ RefusesEverything = (s : List ℕ) → (told : Told) × (told .values ≡ []) ×
 -- one that refuses as it should, and otherwise lists nothing
 abbrev pub ListsNothing : Type 0
 ListsNothing =
-    (s : List ℕ) (r : Reading) (out : List ℕ) → firstBroken (listingRows s (headerOf s) r (length out)) ≡ Passed
-    → Gave (listingRows s (headerOf s) r (length out)) (listingText s (headerOf s) r) out out (Written 0)
+    (s : List ℕ) (r : Reading) (out : List ℕ) → firstBroken (listingRows none s (headerOf s) r (length out)) ≡ Passed
+    → Gave (listingRows none s (headerOf s) r (length out)) (listingText none s (headerOf s) r) out out (Written 0)
 
 -- a recorder that checks and answers as it should, and leaves another buffer
 abbrev leaving : (List ℕ → Header → Slot → List ℕ) → Slot → List ℕ → Change

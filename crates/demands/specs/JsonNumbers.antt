@@ -2,6 +2,7 @@
 use Prim.Native.Nat.{ℕ, zero, suc}
 use mathlib.Core.Bool.{Bool, cond, _&&_, _||_}
 use mathlib.Core.List.{List, [], _∷_, _++_}
+use mathlib.Core.Option.{Option}
 use lib.Dec.{eqb, leb}
 use Rattle.events.specs.Events.{eventAt}
 use Rattle.events.specs.Listing.{fields}
@@ -55,10 +56,10 @@ abbrev pub numbersOf : Line → List ℕ
 numbersOf l =
     l .key ∷ l .ticks ∷ l .us ∷ l .id ∷ l .ptr ∷ l .field ∷ l .info .first ∷ l .info .second ∷ l .info .third ∷ l .info .fourth ∷ []
 
-unfoldable pub numbersTo : ℕ → List ℕ → Header → Reading → List ℕ
-numbersTo zero s h r = []
-numbersTo (suc n) s h r = numbersTo n s h r ++ numbersOf (fields r n (eventAt s h n))
+unfoldable pub numbersTo : ℕ → Option (List ℕ) → List ℕ → Header → Reading → List ℕ
+numbersTo zero file s h r = []
+numbersTo (suc n) file s h r = numbersTo n file s h r ++ numbersOf (fields r n (eventAt file s h n))
 
 -- every number of a listing
-abbrev pub listedNumbers : List ℕ → Header → Reading → List ℕ
-listedNumbers s h r = numbersTo (eventCount s h) s h r
+abbrev pub listedNumbers : Option (List ℕ) → List ℕ → Header → Reading → List ℕ
+listedNumbers file s h r = numbersTo (eventCount s h) file s h r

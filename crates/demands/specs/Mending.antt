@@ -14,7 +14,7 @@ use Rattle.rows.specs.Rows.{Accepted, firstBroken}
 use Rattle.rows.specs.Told.{toldValues}
 use Rattle.trace.specs.Check.{checkOf}
 use Rattle.trace.specs.Layout.{bufferEnd, currentSlot, entryAt, entryCount, entrySize, headerOf, headerSize, registryEnd, slotAt, slotCount, slotSize}
-use Rattle.trace.specs.Names.{findName, nameBytes, nameOf}
+use Rattle.trace.specs.Names.{findName, nameOf}
 use Rattle.trace.specs.Registry.{isWanted}
 use Rattle.trace.specs.Ring.{keep, numbersFrom, oldestFirst, slotOf}
 use Rattle.trace.specs.Slots.{eventId, isAtFault, isFault, isUsed, slotIn}
@@ -24,7 +24,7 @@ use Rattle.trace.specs.declared.Fault.the-variants.{NoId, OutOfTurn}
 use Rattle.trace.specs.declared.Found.the-variants.{Searched}
 use Rattle.trace.specs.declared.Header.{Header}
 use Rattle.trace.specs.declared.Wanted.the-variants.{BadType}
-use Rattle.writing.specs.Keeping.{Outside}
+use Rattle.writing.specs.Keeping.{KeepsBytes, Outside}
 
 -- a slot that lies wholly within the dump; one that does, is used and has id 0; one that does, is used and has another, and so came
 abbrev pub isWhole : List ℕ → Header → ℕ → Bool
@@ -99,7 +99,7 @@ pub record Mends (s t : List ℕ) (h : Header) (r : Repairs) : Type 0 where
   pub events : (p : ℕ) → p < length (cameOf s) → SameAt s (slotAt h (getD (cameOf s) p 0)) t (slotAt h (slotOf t (headerOf t) p)) (slotSize h)
   pub words : (p : ℕ) → p < length (cameOf s) → slotIn (h .order) t (slotAt h (slotOf t (headerOf t) p)) ≡ slotIn (h .order) s (slotAt h (getD (cameOf s) p 0))
   -- and every name is found that the dump's registry has, at the same place, of the same kind and with the same bytes
-  pub names : (pointer : ℕ) → (findName t pointer ≡ Searched (nameOf s h pointer)) × (nameBytes t (nameOf s h pointer) ≡ nameBytes s (nameOf s h pointer))
+  pub names : (pointer : ℕ) → (findName t pointer ≡ Searched (nameOf s h pointer)) × KeepsBytes s t (nameOf s h pointer)
 
 abbrev pub noRepairs : Repairs
 noRepairs = record { missing = 0; current = 0; types = 0; ids = 0; packed = 0; moved = 0 }

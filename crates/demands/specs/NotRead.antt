@@ -2,15 +2,17 @@
 use Prim.Native.Nat.{ℕ, _+_, _≤_, _<_}
 use mathlib.Core.List.{List}
 use mathlib.Core.Logic.{_⊎_}
+use mathlib.Core.Option.{Option}
 use mathlib.Core.Path.{_≡_}
 use lib.ListN.{getD, length}
 use Rattle.events.specs.Events.{eventOf}
 use Rattle.events.specs.Listing.{Gave, lineAt, lineRows, listingRows, listingText}
 use Rattle.events.specs.declared.Listed.{Listed}
 use Rattle.events.specs.declared.Reading.{Reading}
+use Rattle.naming.specs.Finding.{findNameWith}
 use Rattle.trace.specs.Check.{checkOf}
 use Rattle.trace.specs.Layout.{headerOf, headerSize, mostBytes, registryEnd, bufferEnd, entryAt, entryCount}
-use Rattle.trace.specs.Names.{nameBytes}
+use Rattle.trace.specs.Names.{nameBytes, nameFound}
 use Rattle.trace.specs.declared.Header.{Header}
 use Rattle.trace.specs.declared.Slot.{Slot}
 use Rattle.writing.specs.Keeping.{SameName}
@@ -46,19 +48,23 @@ pub record DifferOnlyThere (s t : List ℕ) : Type 0 where
   pub size : (length t ≡ length s) ⊎ (Whole (headerOf s) (length s) × Whole (headerOf s) (length t))
   pub same : (i : ℕ) → (NotRead (headerOf s) i → ⊥) → getD t i 0 ≡ getD s i 0
 
--- what the calls answer: checking; finding a name, and the name's bytes; one event, and its name's bytes; the listing and one line, with all that they leave
--- of the output; and what recording, registering and removing say
+-- what the calls answer: checking; finding a name, and the name's bytes; with a name file or without, finding a name too, one event, and the names' bytes, and
+-- the listing and one line, with all that they leave of the output; and what recording, registering and removing say
 pub record SameAnswers (s t : List ℕ) : Type 0 where
   pub check : checkOf t ≡ checkOf s
   pub name : (pointer : ℕ) → SameName s t pointer
-  pub event : (position : ℕ) → eventOf t position ≡ eventOf s position
-  pub event-name : (position : ℕ) → nameBytes t (nameShown (eventOf s position)) ≡ nameBytes s (nameShown (eventOf s position))
-  pub listing : (r : Reading) (old new : List ℕ) (said : Listed)
-      → Gave (listingRows s (headerOf s) r (length old)) (listingText s (headerOf s) r) old new said
-      → Gave (listingRows t (headerOf t) r (length old)) (listingText t (headerOf t) r) old new said
-  pub line : (r : Reading) (position : ℕ) (old new : List ℕ) (said : Listed)
-      → Gave (lineRows s (headerOf s) r position (length old)) (lineAt s (headerOf s) r position) old new said
-      → Gave (lineRows t (headerOf t) r position (length old)) (lineAt t (headerOf t) r position) old new said
+  pub name-with : (file : Option (List ℕ)) (pointer : ℕ) → findNameWith file t pointer ≡ findNameWith file s pointer
+  pub name-with-bytes : (file : Option (List ℕ)) (pointer : ℕ)
+      → let was = nameFound (findNameWith file s pointer) in nameBytes file t was ≡ nameBytes file s was
+  pub event : (file : Option (List ℕ)) (position : ℕ) → eventOf file t position ≡ eventOf file s position
+  pub event-name : (file : Option (List ℕ)) (position : ℕ)
+      → let was = nameShown (eventOf file s position) in nameBytes file t was ≡ nameBytes file s was
+  pub listing : (file : Option (List ℕ)) (r : Reading) (old new : List ℕ) (said : Listed)
+      → Gave (listingRows file s (headerOf s) r (length old)) (listingText file s (headerOf s) r) old new said
+      → Gave (listingRows file t (headerOf t) r (length old)) (listingText file t (headerOf t) r) old new said
+  pub line : (file : Option (List ℕ)) (r : Reading) (position : ℕ) (old new : List ℕ) (said : Listed)
+      → Gave (lineRows file s (headerOf s) r position (length old)) (lineAt file s (headerOf s) r position) old new said
+      → Gave (lineRows file t (headerOf t) r position (length old)) (lineAt file t (headerOf t) r position) old new said
   pub recording : (slot : Slot) → said (recording slot t) ≡ said (recording slot s)
   pub registering : (object : Object) (name : List ℕ) → said (registering object name t) ≡ said (registering object name s)
   pub removing : (pointer : ℕ) → said (removing pointer t) ≡ said (removing pointer s)

@@ -2,6 +2,7 @@
 use Prim.Native.Nat.{ℕ, zero, suc, _<_}
 use mathlib.Core.Bool.{cond}
 use mathlib.Core.List.{List, [], _∷_}
+use mathlib.Core.Option.{Option}
 use mathlib.Core.Path.{_≡_}
 use lib.Dec.{eqb}
 use lib.Ieee.{Float, binary64, ofInt}
@@ -56,11 +57,11 @@ lineIn text (suc p) = lineIn (behind 0x0A text) p
 abbrev pub keyText : List ℕ → List ℕ
 keyText line = upTo 0x2C (drop (length (ascii "{\"key\":")) line)
 
--- a line that was written for the event at a position of a reading: in a listing, or by itself
+-- a line that was written for the event at a position of a reading, with a name file or without: in a listing, or by itself
 pub data WrittenLine (r : Reading) (p : ℕ) (line : List ℕ) : Type 0 where
-  in-listing : (s old new : List ℕ) (n : ℕ)
-      → Gave (listingRows s (headerOf s) r (length old)) (listingText s (headerOf s) r) old new (Written n)
+  in-listing : (file : Option (List ℕ)) (s old new : List ℕ) (n : ℕ)
+      → Gave (listingRows file s (headerOf s) r (length old)) (listingText file s (headerOf s) r) old new (Written n)
       → p < eventCount s (headerOf s) → line ≡ lineIn (take n new) p → WrittenLine r p line
-  by-itself : (s old new : List ℕ) (n : ℕ)
-      → Gave (lineRows s (headerOf s) r p (length old)) (lineAt s (headerOf s) r p) old new (Written n)
+  by-itself : (file : Option (List ℕ)) (s old new : List ℕ) (n : ℕ)
+      → Gave (lineRows file s (headerOf s) r p (length old)) (lineAt file s (headerOf s) r p) old new (Written n)
       → line ≡ lineIn (take n new) 0 → WrittenLine r p line

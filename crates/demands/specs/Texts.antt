@@ -4,7 +4,7 @@ use mathlib.Core.List.{List, _++_}
 use mathlib.Core.Option.{Option}
 use mathlib.Core.Path.{_≡_}
 use lib.ListN.{length, drop}
-use Rattle.text.specs.Lines.{Fit64, bound, line, nameSize, numbersIn, parts}
+use Rattle.text.specs.Lines.{Fit64, bound, eventSize, line, nameSize, numbersIn, parts}
 use Rattle.text.specs.Names.{name}
 use Rattle.text.specs.Numbers.{digits, number}
 use Rattle.text.specs.Output.{Put, printed}
@@ -24,10 +24,10 @@ pub record Texts : Type 0 where
   -- no text is empty
   pub number-some : (n : ℕ) → 1 ≤ length (number n)
   pub name-some : (n : Option (List ℕ)) → 1 ≤ length (name n)
-  pub line-some : (l : Line) (n : Option (List ℕ)) → 1 ≤ length (line l n)
+  pub line-some : (l : Line) (event : Option (Option (List ℕ))) (n : Option (List ℕ)) → 1 ≤ length (line l event n)
   -- no line is longer than its bound, where its numbers fit 64 bits, and that is at most what the printers take for plenty of room
-  pub line-bound : (l : Line) (n : Option (List ℕ)) → Fit64 (numbersIn (parts l n)) → length (line l n) ≤ bound (parts l n)
-  pub bound-most : (l : Line) (n : Option (List ℕ)) → bound (parts l n) ≤ 6 * (nameSize n + 65)
+  pub line-bound : (l : Line) (event : Option (Option (List ℕ))) (n : Option (List ℕ)) → Fit64 (numbersIn (parts l event n)) → length (line l event n) ≤ bound (parts l event n)
+  pub bound-most : (l : Line) (event : Option (Option (List ℕ))) (n : Option (List ℕ)) → bound (parts l event n) ≤ 6 * (eventSize event + nameSize n + 65)
   -- as no text is empty, an answer of 0 says that there was no room, and without room nothing is written
   pub zero-said : (text old new : List ℕ) → 1 ≤ length text → Put (printed text old) old new 0 → length old < length text
   pub no-room : (text old new : List ℕ) (answer : ℕ) → Put (printed text old) old new answer → length old < length text → (answer ≡ 0) × (new ≡ old)

@@ -2,13 +2,15 @@
 use Prim.Native.Nat.{ℕ, suc, _+_, _≤_, _<_, min}
 use mathlib.Core.Bool.{true}
 use mathlib.Core.List.{List}
-use mathlib.Core.Option.{some}
+use mathlib.Core.Option.{Option, some}
 use mathlib.Core.Path.{_≡_}
 use lib.ListN.{length, getD, drop, take}
+use Rattle.naming.specs.Writing.{recordBytes, recordSize}
+use Rattle.naming.specs.declared.Subject.{Subject}
 use Rattle.rows.specs.Rows.{firstBroken}
 use Rattle.rows.specs.declared.Verdict.the-variants.{Passed}
 use Rattle.trace.specs.Check.{checkOf}
-use Rattle.trace.specs.Layout.{headerOf, bufferStart, currentAt, currentSlot, entryCount, slotAt, slotCount, entryAt, entrySize, slotSize, withCurrent}
+use Rattle.trace.specs.Layout.{headerOf, bufferStart, currentAt, currentSlot, entryCount, slotAt, slotCount, entryAt, entrySize, mostBytes, slotSize, withCurrent}
 use Rattle.trace.specs.Names.{entryName, findName, nameBytes, nameIfEntry, nameOf, threadEntry, threadName}
 use Rattle.trace.specs.Registry.{isWanted, typeAt}
 use Rattle.trace.specs.Slots.{slotIn}
@@ -82,7 +84,7 @@ pub record Registered (object : Object) (name s t : List ℕ) (h : Header) : Typ
   pub type : typeAt t (entryAt h (lowestEntry Free s h)) ≡ object .«object_type»
   -- where rows 1 to 11 pass, a thread's name is found by its pointer, live, cut to the name size
   pub found : object .«object_type» ≡ 1 → firstBroken (registryRows s h) ≡ Passed → findName t (object .pointer) ≡ Searched (entered s h name)
-  pub bytes : nameBytes t (entered s h name) ≡ some (take (h .«name_size») name)
+  pub bytes : (file : Option (List ℕ)) → nameBytes file t (entered s h name) ≡ some (take (h .«name_size») name)
   -- no other name changes, unless the entry had it, from a thread that is gone: where rows 1 to 11 pass, found is then the name of the lowest other thread that
   -- is gone and has the pointer, or none
   pub others : (pointer : ℕ) → Aside object pointer → (nameOf s h pointer ≡ entryName Gone s h (lowestEntry Free s h) → ⊥) → SameName s t pointer
@@ -131,3 +133,12 @@ Reused pointer object name s =
     firstBroken (registryRows s (headerOf s)) ≡ Passed → IsOnly s (headerOf s) pointer (lowestEntry (InUse pointer) s (headerOf s))
     → lowestEntry Free between (headerOf s) ≡ lowestEntry (InUse pointer) s (headerOf s) → Aside object pointer
     → FoundNow s (left (registering object name between) between) pointer (threadName Gone s (headerOf s) pointer)
+
+-- what writing a record of a name file leaves, t, of a buffer s (document 02, A7)
+pub record Filed (subject : Subject) (number : ℕ) (name : List ℕ) (offset : ℕ) (s t : List ℕ) : Type 0 where
+  -- it ends within the buffer, and within what a name file may have
+  pub within : (offset + recordSize name ≤ length s) × (offset + recordSize name ≤ mostBytes)
+  -- the record's bytes are all that was given, and no other byte changes
+  pub bytes : take (recordSize name) (drop offset t) ≡ recordBytes subject number name
+  pub size : length t ≡ length s
+  pub untouched : (i : ℕ) → Outside offset (recordSize name) i → getD t i 0 ≡ getD s i 0

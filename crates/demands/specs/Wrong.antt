@@ -3,15 +3,19 @@ use Prim.Native.Nat.{ℕ, suc, _+_, _-_, _^_, _≤_, _<_, min}
 use mathlib.Core.Bool.{false}
 use mathlib.Core.List.{List, _++_}
 use mathlib.Core.Logic.{_⊎_}
+use mathlib.Core.Option.{some}
 use mathlib.Core.Path.{_≡_}
 use lib.ListN.{length}
 use Rattle.events.specs.declared.Reading.{Reading}
+use Rattle.naming.specs.Records.{fileRows, nameIn}
+use Rattle.naming.specs.Writing.{recordBytes}
+use Rattle.naming.specs.declared.Subject.{Subject}
 use Rattle.rows.specs.Rows.{Accepted}
 use Rattle.rows.specs.declared.Refusal.{Refusal}
 use Rattle.text.specs.Numbers.{digits, number}
 use Rattle.trace.specs.Check.{checkOf}
 use Rattle.trace.specs.Layout.{headerOf, mostBytes, registryEnd}
-use Rattle.trace.specs.Names.{findName}
+use Rattle.trace.specs.Names.{findName, nameBytes}
 use Rattle.trace.specs.Slots.{eventCount}
 use Rattle.trace.specs.Table.{beforeEnds, dumpRows, registryRows, row4}
 use Rattle.trace.specs.Times.{microseconds, stampOf}
@@ -102,6 +106,13 @@ AlwaysExact =
     NoneFormats recording calls fresh → NeverBack writes → p < min (length writes) n
     → shownTicks (after recording calls fresh) p ≡ sinceOldest (lastOf n writes) p
 
+-- of two records for one id or pointer the last counts
+abbrev pub LastCounts : Type 0
+LastCounts =
+    (subject : Subject) (number : ℕ) (name other dump : List ℕ)
+    → let file = some (recordBytes subject number name ++ recordBytes subject number other) in
+    Accepted (fileRows file) → nameBytes file dump (nameIn subject file number) ≡ some other
+
 pub record Wrong : Type 0 where
   pub stamps-rise : StampsRise → ⊥
   pub microseconds-bare : MicrosecondsBare → ⊥
@@ -116,3 +127,4 @@ pub record Wrong : Type 0 where
   pub nonsense-cut : NonsenseCut → ⊥
   pub cut-once : CutOnce → ⊥
   pub always-exact : AlwaysExact → ⊥
+  pub last-counts : LastCounts → ⊥

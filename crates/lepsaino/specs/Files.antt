@@ -8,3 +8,7 @@ use Rattle.lepsaino.specs.declared.shared.Took.the-variants.{Bytes, Fail
 abbrev pub InSpace : Took → List ℕ → Type 0
 InSpace (Bytes n) space = n ≤ length space
 InSpace Failed space = Unit {0}
+
+-- so many bytes lie within the space
+abbrev pub Within : ℕ → List ℕ → Type 0
+Within n space = n ≤ length space

@@ -1,6 +1,8 @@
-// lepsaino FILE RATE UNIT SERIAL: prints the listing of a dump, or the refusal's number, a space and its place as one line. FILE may be a dash.
+// lepsaino FILE RATE UNIT SERIAL [NAMES]: prints the listing of a dump, with names from a name file where one is given, or the refusal's number, a space and its place
+// as one line. FILE or NAMES may be a dash.
 // A usage or file error is one line on standard error, and nothing on standard output. With `mend` first it mends a dump instead.
 mod mends;
+mod named;
 mod shared;
 
 use arguments::Argument;
@@ -9,20 +11,14 @@ use console::print_front;
 use events::Listed;
 use events::Reading;
 use mends::mend_by_arguments;
+use named::list_named;
+use named::output_space;
+use named::path_at;
 use shared::Took;
 use shared::print_refused;
 use shared::read_file;
 use shared::say;
-ghost use mathlib.Core.Path.{_≡_};
-ghost use lib.ListN.{length};
 ghost use Rattle.arguments.specs.Arguments.{AtMost};
-
-// Room for 2,046 events at 774 bytes each, six for each of 64 bytes of a name and 65 more: any listing fits, and none is measured first.
-fn output_space() -> [u8; 1583604]
-    ensures { λ r. ⌜ 1583604 ≡ length r ⌝ }
-{
-    [0; 1583604]
-}
 
 fn print_listing(dump: &[u8], reading: Reading) {
     let mut space = output_space();
@@ -42,12 +38,15 @@ fn list_file(path: &[u8], reading: Reading) {
 
 fn list_with(reading: Reading) {
     let mut space = io::buffer();
-    let n = os::arg(1, &mut space);
+    let n = path_at(1, b"FILE", &mut space);
     if n == 0 {
-        say(b"FILE's name is empty, or longer than 4096 bytes\n");
         return;
     }
-    list_file(&space[..n], reading);
+    if os::arg_count() == 6 {
+        list_named(&space[..n], reading);
+    } else {
+        list_file(&space[..n], reading);
+    }
 }
 
 // The number in an argument, of at most so much.
@@ -60,9 +59,10 @@ fn argument_at(i: usize, most: u64) -> Argument
 }
 
 fn list_by_arguments() {
-    if os::arg_count() != 5 {
+    let count = os::arg_count();
+    if count != 5 && count != 6 {
         say(
-            b"usage: lepsaino FILE RATE UNIT SERIAL, or lepsaino mend FILE COPY; lepsaino --help says more\n",
+            b"usage: lepsaino FILE RATE UNIT SERIAL [NAMES], or lepsaino mend FILE COPY; lepsaino --help says more\n",
         );
         return;
     }

@@ -11,6 +11,8 @@ use Rattle.events.specs.declared.Listed.{Listed}
 use Rattle.events.specs.declared.Shown.{Shown}
 use Rattle.mending.specs.Mending.{mendedTold}
 use Rattle.mending.specs.declared.Mended.{Mended}
+use Rattle.naming.specs.declared.Subject.{Subject}
+use Rattle.naming.specs.declared.Subject.the-variants.{Event, Thread}
 use Rattle.rows.specs.Rows.{Row, firstBroken}
 use Rattle.rows.specs.Told.{Told, valueAt}
 use Rattle.trace.specs.Check.{checkedTold}
@@ -65,14 +67,14 @@ checkAnswerOf t = record {
 unfoldable pub checkAnswer : Checked → CheckAnswer
 checkAnswer x = checkAnswerOf (checkedTold x)
 
--- a name: its kind, and where it lies in the dump
+-- a name: its kind, and where it lies in the dump or in the name file
 abbrev pub nameAnswerOf : Told → NameAnswer
 nameAnswerOf t = record { refusal = t .number; place = t .place; kind = valueAt t 0; at = valueAt t 1; length = valueAt t 2 }
 
 unfoldable pub nameAnswer : Found → NameAnswer
 nameAnswer x = nameAnswerOf (foundTold x)
 
--- an event: its slot's eight words, ticks, context and name
+-- an event: its slot's eight words, ticks, context and name, and its own name
 abbrev pub eventAnswerOf : Told → EventAnswer
 eventAnswerOf t = record {
   refusal = t .number;
@@ -83,6 +85,9 @@ eventAnswerOf t = record {
   «name_kind» = valueAt t 10;
   «name_at» = valueAt t 11;
   «name_length» = valueAt t 12;
+  «event_kind» = valueAt t 13;
+  «event_at» = valueAt t 14;
+  «event_length» = valueAt t 15;
 }
 
 unfoldable pub eventAnswer : Shown → EventAnswer
@@ -117,3 +122,7 @@ formatGiven n = record {
   «name_size» = n .«name_size»;
   entries = n .entries;
 }
+
+-- writing a record: 0 is an event's, any other number a thread's
+unfoldable pub subjectGiven : ℕ → Subject
+subjectGiven n = cond (eqb n 0) Event Thread

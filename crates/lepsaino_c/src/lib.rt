@@ -1,6 +1,7 @@
 // The calls for C: each hands on to the library's call and gives its answer as a struct of numbers. include/lepsaino.h declares them.
 mod answers;
 mod feeders;
+mod named_readers;
 mod readers;
 mod writers;
 
@@ -12,6 +13,10 @@ pub use answers::NameAnswer;
 pub use feeders::lepsaino_begin;
 pub use feeders::lepsaino_feed;
 pub use feeders::lepsaino_finish;
+pub use named_readers::lepsaino_event_with_names;
+pub use named_readers::lepsaino_find_name_with_names;
+pub use named_readers::lepsaino_line_with_names;
+pub use named_readers::lepsaino_listing_with_names;
 pub use readers::lepsaino_check;
 pub use readers::lepsaino_event;
 pub use readers::lepsaino_find_name;
@@ -24,3 +29,4 @@ pub use writers::lepsaino_mend;
 pub use writers::lepsaino_record;
 pub use writers::lepsaino_register;
 pub use writers::lepsaino_remove;
+pub use writers::lepsaino_write_name;

@@ -8,6 +8,7 @@ use crate::answers::of_found;
 use crate::answers::of_listed;
 use crate::answers::of_shown;
 use events::Reading;
+ghost use mathlib.Core.Option.{none};
 ghost use mathlib.Core.Path.{_≡_};
 ghost use lib.ListN.{length};
 ghost use Rattle.events.specs.Events.{eventOf};
@@ -30,7 +31,7 @@ pub extern "C" fn lepsaino_check(dump: &[u8]) -> CheckAnswer
 // One event by position.
 #[no_mangle]
 pub extern "C" fn lepsaino_event(dump: &[u8], position: usize) -> EventAnswer
-    ensures { λ r. ⌜ r ≡ eventAnswer (eventOf (now (dump .entry)) position) ⌝ }
+    ensures { λ r. ⌜ r ≡ eventAnswer (eventOf none (now (dump .entry)) position) ⌝ }
 {
     of_shown(walk::event(dump, position))
 }
@@ -51,7 +52,7 @@ pub extern "C" fn lepsaino_line(
     position: usize,
     out: &mut [u8],
 ) -> Answer
-    ensures { λ r. ⌜ GaveNumbers (lineRows (now (dump .entry)) (headerOf (now (dump .entry))) reading position (length (now (out .entry)))) (lineAt (now (dump .entry)) (headerOf (now (dump .entry))) reading position) (now (out .entry)) (now (out .exit)) r ⌝ }
+    ensures { λ r. ⌜ GaveNumbers (lineRows none (now (dump .entry)) (headerOf (now (dump .entry))) reading position (length (now (out .entry)))) (lineAt none (now (dump .entry)) (headerOf (now (dump .entry))) reading position) (now (out .entry)) (now (out .exit)) r ⌝ }
 {
     of_listed(listing::line(dump, reading, position, out))
 }
@@ -59,7 +60,7 @@ pub extern "C" fn lepsaino_line(
 // The whole listing.
 #[no_mangle]
 pub extern "C" fn lepsaino_listing(dump: &[u8], reading: Reading, out: &mut [u8]) -> Answer
-    ensures { λ r. ⌜ GaveNumbers (listingRows (now (dump .entry)) (headerOf (now (dump .entry))) reading (length (now (out .entry)))) (listingText (now (dump .entry)) (headerOf (now (dump .entry))) reading) (now (out .entry)) (now (out .exit)) r ⌝ }
+    ensures { λ r. ⌜ GaveNumbers (listingRows none (now (dump .entry)) (headerOf (now (dump .entry))) reading (length (now (out .entry)))) (listingText none (now (dump .entry)) (headerOf (now (dump .entry))) reading) (now (out .entry)) (now (out .exit)) r ⌝ }
 {
     of_listed(listing::listing(dump, reading, out))
 }

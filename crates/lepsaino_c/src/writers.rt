@@ -1,8 +1,9 @@
-// The calls that write into a buffer.
+// The calls that write into a buffer or a name file.
 use crate::answers::Answer;
 use crate::answers::MendAnswer;
 use crate::answers::of_mended;
 use crate::answers::of_outcome;
+use naming::Subject;
 use trace::Slot;
 use words::Order;
 use writing::Format;
@@ -13,8 +14,8 @@ ghost use Rattle.mending.specs.Mending.{copyOf, mendOf, mendingRows};
 ghost use Rattle.rows.specs.Lent.{leftIn};
 ghost use Rattle.rows.specs.Rows.{firstBroken};
 ghost use Rattle.trace.specs.Layout.{headerOf};
-ghost use Rattle.writing.specs.Writing.{formatting, left, recording, registering, removing, said};
-ghost use Rattle.lepsaino_c.specs.Answers.{formatGiven, mendAnswer, orderGiven, outcomeAnswer};
+ghost use Rattle.writing.specs.Writing.{filing, formatting, left, recording, registering, removing, said};
+ghost use Rattle.lepsaino_c.specs.Answers.{formatGiven, mendAnswer, orderGiven, outcomeAnswer, subjectGiven};
 
 // A format with its byte order as a number: 0 is little-endian, any other big.
 #[repr(C)]
@@ -85,4 +86,27 @@ pub extern "C" fn lepsaino_mend(dump: &[u8], copy: &mut [u8]) -> MendAnswer
     ensures { λ r. ⌜ (r ≡ mendAnswer (mendOf (now (dump .entry)) (length (now (copy .entry))))) × (now (copy .exit) ≡ leftIn (now (copy .entry)) (firstBroken (mendingRows (now (dump .entry)) (headerOf (now (dump .entry))) (length (now (copy .entry))))) (copyOf (now (dump .entry)) (headerOf (now (dump .entry))))) ⌝ }
 {
     of_mended(mender::mend(dump, copy))
+}
+
+fn subject_given(thread: u32) -> Subject
+    ensures { λ r. ⌜ r ≡ subjectGiven thread ⌝ }
+{
+    if thread == 0 {
+        return Subject::Event;
+    }
+    Subject::Thread
+}
+
+// Writes one record of a name file: an event's where `thread` is 0, otherwise a thread's.
+#[no_mangle]
+pub extern "C" fn lepsaino_write_name(
+    names: &mut [u8],
+    offset: usize,
+    thread: u32,
+    number: u32,
+    name: &[u8],
+) -> Answer
+    ensures { λ r. ⌜ (r ≡ outcomeAnswer (said (filing (subjectGiven thread) number (now (name .entry)) offset (now (names .entry))))) × (now (names .exit) ≡ left (filing (subjectGiven thread) number (now (name .entry)) offset (now (names .entry))) (now (names .entry))) ⌝ }
+{
+    of_outcome(filer::write_name(names, offset, subject_given(thread), number, name))
 }

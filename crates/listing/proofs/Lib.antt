@@ -4,3 +4,5 @@ mod Follows
 mod Lengths
 mod Links
 mod Naming
+mod RecordIndex
+mod ThreadIndex

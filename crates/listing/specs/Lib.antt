@@ -1,2 +1,4 @@
 pub mod Accepted
 pub mod Index
+pub mod RecordIndex
+pub mod ThreadIndex

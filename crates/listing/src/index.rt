@@ -1,130 +1,24 @@
-// An index of the registry's threads by their pointers, filled in one pass: a link for each entry, and behind them the first link of each place. Live threads and those that are gone have places of their own.
-use dump::is_thread;
-use dump::kind_at;
-use events::Event;
-use finder::entry_name;
-use header::geometry_of;
-use trace::HEADER_SIZE;
-use trace::Header;
-use trace::NAME_OFFSET;
-use trace::Name;
-use trace::ThreadKind;
-use walk::Walk;
-use walk::event_with;
-use walk::slot_at;
-use walk::sought_by;
+// What the indices of threads and of records share: the places of numbers. A place leads to the first of the things that have it, and each of these to the next.
 ghost use mathlib.Core.Path.{_≡_};
-ghost use Prim.Native.Nat.{_<_, _≤_, suc};
-ghost use lib.ListN.{replicate};
-ghost use Rattle.trace.specs.Layout.{entryCount};
-ghost use Rattle.trace.specs.Names.{nameOf};
-ghost use Rattle.walk.specs.Walks.{eventHere};
-ghost use Rattle.listing.specs.Index.{Ends, Linked, placeOf, spreadOf};
+ghost use Prim.Native.Nat.{_<_};
+ghost use Rattle.listing.specs.Index.{placeOf, spreadOf};
 
-// No dump has room for more entries. The first links of the places stand behind theirs.
-const FIRSTS: usize = 3274;
-
-// A link for each entry, and the first link of each of twice 2,048 places.
-pub(crate) const LINKS: usize = 7370;
-
-// Where a link leads that leads past all entries.
+// Where a link leads that leads past all things.
 pub(crate) const NOWHERE: u16 = 65535;
 
-// Links the threads, from the last entry to the first, so that each link leads to the lowest behind it.
-pub(crate) fn link_all(dump: &[u8], header: Header, links: &mut [u16; LINKS])
-    requires { ⌜ (entryCount header ≤ 3274) × (now links ≡ replicate 7370 65535) ⌝ }
-    ensures { λ r. ⌜ Linked (now (dump .entry)) header 0 (now (links .exit)) ⌝ }
+// The place of a number; behind the places of the first sort are those of the second.
+pub(crate) fn place_of(second: bool, number: u32) -> usize
+    ensures { λ r. ⌜ (r ≡ placeOf second number) × (r < 4096) ⌝ }
 {
-    let mut i = geometry_of(header).entries;
-    while i > 0 {
-        i -= 1;
-        link(dump, header, i, links);
+    if second {
+        return 2048 + spread(number);
     }
+    spread(number)
 }
 
-// Links one entry more.
-fn link(dump: &[u8], header: Header, entry: usize, links: &mut [u16; LINKS])
-    requires { ⌜ (entry < entryCount header) × Linked (now dump) header (suc entry) (now links) ⌝ }
-    ensures { λ r. ⌜ Linked (now (dump .entry)) header entry (now (links .exit)) ⌝ }
+// Bits 21 to 31 of a product, which spreads numbers at most regular distances, whatever bits they share.
+fn spread(number: u32) -> usize
+    ensures { λ r. ⌜ (r ≡ spreadOf number) × (r < 2048) ⌝ }
 {
-    let at = HEADER_SIZE + entry * geometry_of(header).entry_size;
-    if is_thread(dump, at) {
-        let order = header.order;
-        let place = place_of(kind_at(dump, at), words::word(dump, at + 4, order));
-        links[entry] = links[FIRSTS + place];
-        links[FIRSTS + place] = entry as u16;
-    }
-}
-
-// The place of a pointer; behind the places of live threads are those of threads that are gone.
-fn place_of(kind: ThreadKind, pointer: u32) -> usize
-    ensures { λ r. ⌜ (r ≡ placeOf kind pointer) × (r < 4096) ⌝ }
-{
-    match kind {
-        ThreadKind::Live => spread(pointer),
-        ThreadKind::Gone => 2048 + spread(pointer),
-    }
-}
-
-// Bits 21 to 31 of a product, which spreads pointers at most regular distances, whatever bits they share.
-fn spread(pointer: u32) -> usize
-    ensures { λ r. ⌜ (r ≡ spreadOf pointer) × (r < 2048) ⌝ }
-{
-    (pointer as u64 * 2654435769 / 2097152 % 2048) as usize
-}
-
-// The lowest thread of a kind with a pointer, or nowhere where there is none.
-fn linked_entry(
-    dump: &[u8],
-    header: Header,
-    kind: ThreadKind,
-    pointer: u32,
-    links: &[u16; LINKS],
-) -> usize
-    requires { ⌜ Linked (now dump) header 0 (now links) ⌝ }
-    ensures { λ r. ⌜ Ends (now (dump .entry)) header kind pointer r ⌝ }
-{
-    let size = NAME_OFFSET + header.name_size as usize;
-    let place = place_of(kind, pointer);
-    let mut i = links[FIRSTS + place] as usize;
-    loop {
-        if i == NOWHERE as usize {
-            break i;
-        }
-        let order = header.order;
-        if words::word(dump, HEADER_SIZE + i * size + 4, order) == pointer {
-            break i;
-        }
-        i = links[i] as usize;
-    }
-}
-
-// The name for a pointer: a live thread's, or else one's that is gone.
-fn name_of(dump: &[u8], header: Header, pointer: u32, links: &[u16; LINKS]) -> Name
-    requires { ⌜ Linked (now dump) header 0 (now links) ⌝ }
-    ensures { λ r. ⌜ r ≡ nameOf (now (dump .entry)) header pointer ⌝ }
-{
-    let live = linked_entry(dump, header, ThreadKind::Live, pointer, links);
-    if live != NOWHERE as usize {
-        return entry_name(dump, header, ThreadKind::Live, live as u32);
-    }
-    let gone = linked_entry(dump, header, ThreadKind::Gone, pointer, links);
-    if gone != NOWHERE as usize {
-        return entry_name(dump, header, ThreadKind::Gone, gone as u32);
-    }
-    Name::Nameless
-}
-
-// The event where a walk stands.
-pub(crate) fn event_here(dump: &[u8], header: Header, walk: Walk, links: &[u16; LINKS]) -> Event
-    requires { ⌜ Linked (now dump) header 0 (now links) ⌝ }
-    ensures { λ r. ⌜ r ≡ eventHere (now (dump .entry)) header walk ⌝ }
-{
-    let order = header.order;
-    let slot = slot_at(dump, walk.at, order);
-    event_with(
-        slot,
-        walk.ticks,
-        name_of(dump, header, sought_by(slot), links),
-    )
+    (number as u64 * 2654435769 / 2097152 % 2048) as usize
 }

@@ -2,6 +2,7 @@
 use console::number_at;
 use console::word_at;
 use events::Reading;
+use naming::Subject;
 use rows::above;
 use rows::least;
 use words::Order;
@@ -52,4 +53,21 @@ pub(crate) fn object_in(arguments: &[u8]) -> Object {
 // The name that follows an object's 15 bytes.
 pub(crate) fn name_in(arguments: &[u8]) -> &[u8] {
     &arguments[least(15, arguments.len())..]
+}
+
+// A record's: whether it is a thread's (a byte), the id or the pointer, the offset (64 bits), the name's length, the byte that fills it, and the name's front.
+pub(crate) fn subject_in(arguments: &[u8]) -> Subject {
+    if words::byte(arguments, 0, 0) == 0 {
+        return Subject::Event;
+    }
+    Subject::Thread
+}
+
+pub(crate) fn offset_in(arguments: &[u8]) -> usize {
+    number_at(arguments, 5, 9) as usize
+}
+
+// The bytes that follow a record's 18.
+pub(crate) fn front_in(arguments: &[u8]) -> &[u8] {
+    &arguments[least(18, arguments.len())..]
 }

@@ -8,8 +8,8 @@ fn mixed(digest: u64, b: u8) -> u64 {
     digest % 36028797018963913 * 511 + b as u64
 }
 
-// A space, the digest and the line's end. A change within six neighbouring bytes always gives another number.
-pub(crate) fn print_digest(buffer: &[u8]) {
+// A space and the digest. A change within six neighbouring bytes always gives another number.
+pub(crate) fn print_mixed(buffer: &[u8]) {
     let mut digest = 1;
     let mut i = 0;
     while i < buffer.len() {
@@ -17,6 +17,11 @@ pub(crate) fn print_digest(buffer: &[u8]) {
         i += 1;
     }
     print_space(digest);
+}
+
+// The same, and the line's end.
+pub(crate) fn print_digest(buffer: &[u8]) {
+    print_mixed(buffer);
     print_end();
 }
 

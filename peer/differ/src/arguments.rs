@@ -3,7 +3,7 @@
 use lepsaino::{Format, Object, Reading, Slot};
 use peer::call::Registration;
 use peer::generate::chance::Chance;
-use peer::{ByteOrder, Plan};
+use peer::{ByteOrder, Named, Plan};
 
 pub fn reading(reading: &peer::Reading) -> Reading {
     Reading {
@@ -25,6 +25,14 @@ pub fn format(chance: &mut Chance, plan: &Plan) -> Format {
         mask: plan.mask,
         name_size: plan.name_size,
         entries: plan.entries,
+    }
+}
+
+/// Any number but 0 means a thread.
+pub fn thread(chance: &mut Chance, named: Named) -> u32 {
+    match named {
+        Named::Event => 0,
+        Named::Thread => chance.pick(&[1, 1, 2, 256, 1 << 31, u32::MAX]),
     }
 }
 

@@ -9,14 +9,19 @@ use peer::answers::{answer, Reply};
 use peer::call::Call;
 use peer::case::Case;
 use peer::generate::chance::Chance;
+use std::borrow::Cow;
 
 pub struct Comparison {
     chance: Chance,
     loan: Loan,
     /// The buffer as it is before a call.
     before: Vec<u8>,
+    /// The name file as it is before a call.
+    names_before: Vec<u8>,
     /// A buffer near the case's own.
     near: Vec<u8>,
+    /// A name file near the case's own.
+    names_near: Vec<u8>,
     pub tally: Tally,
 }
 
@@ -27,17 +32,20 @@ impl Comparison {
             chance: Chance::new(!seed),
             loan: Loan::default(),
             before: Vec::new(),
+            names_before: Vec::new(),
             near: Vec::new(),
+            names_near: Vec::new(),
             tally: Tally::default(),
         }
     }
 
-    /// Makes the calls of a case in turn, each first on buffers near the one that it finds. An error tells the first difference.
+    /// Makes the calls of a case in turn, each first on a buffer and a name file near those that it finds. An error tells the first difference.
     pub fn case(&mut self, case: &Case) -> Result<(), String> {
         let mut buffer = case.buffer();
+        let mut names = case.names();
         for (index, call) in case.calls.iter().enumerate() {
             if *call != Call::Bytes {
-                self.call(&mut buffer, call)
+                self.call(&mut buffer, &mut names, call)
                     .map_err(|difference| format!("call {}, {}", index + 1, difference))?;
             }
         }
@@ -45,11 +53,11 @@ impl Comparison {
         number::compare(&mut self.chance, &mut self.loan)
     }
 
-    fn call(&mut self, buffer: &mut [u8], call: &Call) -> Result<(), String> {
-        for _ in 0..self.times_changed(buffer.len()) {
-            self.input_near(buffer, call)?;
+    fn call(&mut self, buffer: &mut [u8], names: &mut [u8], call: &Call) -> Result<(), String> {
+        for _ in 0..self.times_changed(buffer.len().max(names.len())) {
+            self.input_near(buffer, names, call)?;
         }
-        self.input(buffer, call)
+        self.input(buffer, names, call)
     }
 
     /// Large buffers take long, and a change in them seldom matters.
@@ -61,31 +69,58 @@ impl Comparison {
         }
     }
 
-    fn input_near(&mut self, buffer: &[u8], call: &Call) -> Result<(), String> {
+    fn input_near(&mut self, buffer: &[u8], names: &[u8], call: &Call) -> Result<(), String> {
         let mut near = std::mem::take(&mut self.near);
         near.clear();
         near.extend_from_slice(buffer);
-        change(&mut self.chance, &mut near);
+        let mut names_near = std::mem::take(&mut self.names_near);
+        names_near.clear();
+        names_near.extend_from_slice(names);
+        let (in_buffer, in_names) = self.changed_parts(call);
+        if in_buffer {
+            change(&mut self.chance, &mut near);
+        }
+        if in_names {
+            change(&mut self.chance, &mut names_near);
+        }
         let inputs = self.tally.inputs;
-        let result = self.input(&mut near, call);
+        let result = self.input(&mut near, &mut names_near, call);
         self.tally.changed += self.tally.inputs - inputs;
         self.near = near;
+        self.names_near = names_near;
         result
     }
 
-    /// One call, by the peer on this buffer and by the library on a copy.
-    fn input(&mut self, buffer: &mut [u8], call: &Call) -> Result<(), String> {
+    /// Whether the buffer and the name file are changed: what the call takes no notice of is not.
+    fn changed_parts(&mut self, call: &Call) -> (bool, bool) {
+        match call.letter() {
+            b'E' | b'N' | b'L' | b'A' => {
+                let parts = [(true, false), (false, true), (false, true), (true, true)];
+                self.chance.pick(&parts)
+            }
+            b'r' => (false, true),
+            _ => (true, false),
+        }
+    }
+
+    /// One call, by the peer on this buffer and this name file and by the library on copies.
+    fn input(&mut self, buffer: &mut [u8], names: &mut [u8], call: &Call) -> Result<(), String> {
         self.before.clear();
         self.before.extend_from_slice(buffer);
-        let loan = &mut self.loan;
-        loan.ready(&mut self.chance, buffer, room(call), name(call));
-        let reply = answer(buffer, call);
+        self.names_before.clear();
+        self.names_before.extend_from_slice(names);
+        let (chance, name) = (&mut self.chance, name(call));
+        self.loan.ready(chance, buffer, names, room(call), &name);
+        let reply = answer(buffer, names, call);
         self.tally.count(&self.before, call, &reply);
         let differing = self.differing(call, &reply);
-        let faulty = differing.or_else(|| self.fault(buffer, call, &reply));
+        let faulty = differing.or_else(|| self.fault(buffer, names, call, &reply));
         match faulty.or_else(|| self.in_pieces(call, &reply)) {
             None => Ok(()),
-            Some(difference) => Err(told(&self.before, call, &reply, &difference)),
+            Some(difference) => {
+                let (before, names) = (&self.before, &self.names_before);
+                Err(told(before, names, call, &reply, &difference))
+            }
         }
     }
 
@@ -119,7 +154,7 @@ impl Comparison {
     }
 
     /// What is wrong with the bytes after the call.
-    fn fault(&self, buffer: &[u8], call: &Call, reply: &Reply) -> Option<String> {
+    fn fault(&self, buffer: &[u8], names: &[u8], call: &Call, reply: &Reply) -> Option<String> {
         let written = match reply {
             Reply::Text {
                 result: Ok(text), ..
@@ -130,27 +165,33 @@ impl Comparison {
             _ => &[],
         };
         let writes = matches!(reply, Reply::Written { result: Ok(_), .. });
-        if !writes && buffer != self.before {
+        let of_names = matches!(call, Call::WriteName(_));
+        let buffer_stays = !writes || of_names;
+        let names_stay = !writes || !of_names;
+        if buffer_stays && buffer != self.before || names_stay && names != self.names_before {
             return Some("the peer changed bytes that must stay".to_string());
         }
-        self.loan.fault(buffer, name(call), written)
+        self.loan.fault(buffer, names, &name(call), written)
     }
 }
 
 /// The room for the text of a line or a listing, or for a mended copy.
 fn room(call: &Call) -> usize {
     match call {
-        Call::Line { room, .. } | Call::Listing { room, .. } | Call::Mend { room } => {
-            *room as usize
-        }
+        Call::Line { room, .. }
+        | Call::Listing { room, .. }
+        | Call::LineWithNames { room, .. }
+        | Call::ListingWithNames { room, .. }
+        | Call::Mend { room } => *room as usize,
         _ => 0,
     }
 }
 
-/// The name of an object to register.
-fn name(call: &Call) -> &[u8] {
+/// The name of an object to register, or of a record to write.
+fn name(call: &Call) -> Cow<'_, [u8]> {
     match call {
-        Call::Register(registration) => &registration.name,
-        _ => &[],
+        Call::Register(registration) => Cow::Borrowed(&registration.name),
+        Call::WriteName(naming) => Cow::Owned(naming.name.bytes()),
+        _ => Cow::Borrowed(&[]),
     }
 }

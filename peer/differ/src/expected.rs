@@ -4,7 +4,7 @@ use crate::arguments::slot;
 use crate::plain::Given;
 use lepsaino::raw::{self, Answer, Checked, Event, Mended, Name};
 use peer::answers::{EventAnswer, FoundName, MendAnswer, Reply};
-use peer::{ByteOrder, Context, Refusal, Summary};
+use peer::{ByteOrder, Context, NameKind, Refusal, Summary};
 
 /// None for the one kind of call that the library does not have.
 pub fn given(reply: &Reply) -> Option<Given> {
@@ -118,8 +118,11 @@ fn name(found: Option<&FoundName>) -> Name {
         place: 0,
         kind: match found {
             None => raw::NAMELESS,
-            Some(name) if name.gone => raw::GONE,
-            Some(_) => raw::LIVE,
+            Some(name) => match name.kind {
+                NameKind::Live => raw::LIVE,
+                NameKind::Gone => raw::GONE,
+                NameKind::Filed => raw::FILED,
+            },
         },
         at: found.map_or(0, |name| name.at),
         length: found.map_or(0, |name| name.bytes.len()),
@@ -127,6 +130,7 @@ fn name(found: Option<&FoundName>) -> Name {
 }
 
 fn event(answer: &EventAnswer) -> Event {
+    let own = name(answer.event_name.iter().flatten().next());
     let name = name(answer.name.as_ref());
     Event {
         refusal: 0,
@@ -141,5 +145,8 @@ fn event(answer: &EventAnswer) -> Event {
         name_kind: name.kind,
         name_at: name.at,
         name_length: name.length,
+        event_kind: own.kind,
+        event_at: own.at,
+        event_length: own.length,
     }
 }

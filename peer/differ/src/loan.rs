@@ -1,4 +1,4 @@
-//! All that one call is lent: a buffer, a name, an output.
+//! All that one call is lent: a buffer, a name file, a name, an output.
 
 use crate::lent::Lent;
 use crate::told::{front, hex};
@@ -7,6 +7,7 @@ use peer::generate::chance::Chance;
 #[derive(Default)]
 pub struct Loan {
     pub buffer: Lent,
+    pub names: Lent,
     pub name: Lent,
     pub out: Lent,
     /// What the output holds before the call.
@@ -14,22 +15,38 @@ pub struct Loan {
 }
 
 impl Loan {
-    pub fn ready(&mut self, chance: &mut Chance, buffer: &[u8], room: usize, name: &[u8]) {
+    pub fn ready(
+        &mut self,
+        chance: &mut Chance,
+        buffer: &[u8],
+        names: &[u8],
+        room: usize,
+        name: &[u8],
+    ) {
         self.fill = chance.byte();
         self.buffer.copy(chance, buffer);
+        self.names.copy(chance, names);
         self.name.copy(chance, name);
         self.out.fill(chance, room, self.fill);
     }
 
-    /// What is not as it must be after a call: the buffer as the peer leaves it, the name, the text or the copy written, and the output past it.
-    pub fn fault(&self, buffer: &[u8], name: &[u8], written: &[u8]) -> Option<String> {
-        let given = self.buffer.bytes();
-        if given != buffer {
-            return Some(format!(
-                "the library leaves {}\nthe peer leaves {}",
-                hex(given),
-                hex(buffer)
-            ));
+    /// What is not as it must be after a call: the buffer and the name file as the peer leaves them, the name, the text or the copy written, and the output past it.
+    pub fn fault(
+        &self,
+        buffer: &[u8],
+        names: &[u8],
+        name: &[u8],
+        written: &[u8],
+    ) -> Option<String> {
+        for (lent, left) in [(&self.buffer, buffer), (&self.names, names)] {
+            let given = lent.bytes();
+            if given != left {
+                return Some(format!(
+                    "the library leaves {}\nthe peer leaves {}",
+                    hex(given),
+                    hex(left)
+                ));
+            }
         }
         if self.name.bytes() != name {
             return Some("the library changed the name".to_string());
@@ -46,7 +63,7 @@ impl Loan {
         if !all_are(&out[written.len()..], self.fill) {
             return Some("the library changed the output past what it wrote".to_string());
         }
-        let lent = [&self.buffer, &self.name, &self.out];
+        let lent = [&self.buffer, &self.names, &self.name, &self.out];
         if !lent.iter().all(|lent| lent.guards_hold()) {
             return Some("the library changed bytes beside the lent ones".to_string());
         }

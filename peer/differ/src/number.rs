@@ -9,7 +9,7 @@ pub fn compare(chance: &mut Chance, loan: &mut Loan) -> Result<(), String> {
     let whole = peer::number(number);
     let room = some_room(chance, whole.len());
     let text = if whole.len() <= room { &whole[..] } else { "" };
-    loan.ready(chance, &[], room, &[]);
+    loan.ready(chance, &[], &[], room, &[]);
     let length = written(chance, loan, number);
     let fault = match loan.output_fault(text.as_bytes()) {
         None if length == text.len() => return Ok(()),

@@ -18,6 +18,7 @@ pub enum Given {
 /// None for the one kind of call that the library does not have.
 pub fn answer(chance: &mut Chance, loan: &mut Loan, call: &Call) -> Option<Given> {
     let (buffer, length) = loan.buffer.pointer(chance);
+    let (names, names_length) = loan.names.pointer(chance);
     let (name, name_length) = loan.name.pointer(chance);
     let (out, room) = loan.out.pointer(chance);
     // SAFETY: each pointer is to so many bytes of a part of its own, or null with the length 0, and the parts live until the end.
@@ -50,6 +51,50 @@ pub fn answer(chance: &mut Chance, loan: &mut Loan, call: &Call) -> Option<Given
             }
             Call::Remove { pointer } => Given::Answer(lepsaino_remove(buffer, length, *pointer)),
             Call::Mend { .. } => Given::Mended(lepsaino_mend(buffer, length, out, room)),
+            Call::EventWithNames { position } => Given::Event(lepsaino_event_with_names(
+                buffer,
+                length,
+                names,
+                names_length,
+                *position,
+            )),
+            Call::FindNameWithNames { pointer } => Given::Name(lepsaino_find_name_with_names(
+                buffer,
+                length,
+                names,
+                names_length,
+                *pointer,
+            )),
+            Call::LineWithNames {
+                reading, position, ..
+            } => Given::Answer(lepsaino_line_with_names(
+                buffer,
+                length,
+                arguments::reading(reading),
+                *position,
+                names,
+                names_length,
+                out,
+                room,
+            )),
+            Call::ListingWithNames { reading, .. } => Given::Answer(lepsaino_listing_with_names(
+                buffer,
+                length,
+                arguments::reading(reading),
+                names,
+                names_length,
+                out,
+                room,
+            )),
+            Call::WriteName(naming) => Given::Answer(lepsaino_write_name(
+                names,
+                names_length,
+                naming.offset,
+                arguments::thread(chance, naming.named),
+                naming.number,
+                name,
+                name_length,
+            )),
             Call::Bytes => return None,
         })
     }

@@ -7,13 +7,13 @@ use peer::call::Call;
 use peer::Header;
 use std::fmt;
 
-pub const REFUSALS: usize = 26;
+pub const REFUSALS: usize = 28;
 
 /// The refusal of a dump that stops before one of these ends.
 const CUT: usize = 26;
 const ENDS: [&str; 2] = ["registry end", "buffer end"];
 
-const KINDS: [&str; 12] = [
+const KINDS: [&str; 17] = [
     "check",
     "event",
     "find name",
@@ -24,13 +24,18 @@ const KINDS: [&str; 12] = [
     "register",
     "remove",
     "mend",
+    "event with names",
+    "find name with names",
+    "line with names",
+    "listing with names",
+    "write name",
     "check in pieces",
     "number",
 ];
 
 /// The kinds that are no call of a case.
-const IN_PIECES: usize = 10;
-const NUMBER: usize = 11;
+const IN_PIECES: usize = 15;
+const NUMBER: usize = 16;
 
 #[derive(Default)]
 pub struct Tally {
@@ -52,7 +57,7 @@ impl Tally {
         if let Reply::Mend { result, .. } = reply {
             self.mends.count(result);
         }
-        self.names.count(reply);
+        self.names.count(call, reply);
     }
 
     /// The reply is that to the whole check.
@@ -152,6 +157,11 @@ fn can_give(kind: usize, number: usize) -> bool {
         "register" => matches!(number, 1..=10 | 19..=21 | 23 | CUT),
         "remove" => matches!(number, 1..=10 | 22 | CUT),
         "mend" => matches!(number, 1..=9 | 16 | CUT),
+        "event with names" => matches!(number, 1..=13 | 25 | CUT | 27),
+        "find name with names" => matches!(number, 1..=11 | CUT | 27),
+        "line with names" => matches!(number, 1..=16 | 25 | CUT | 27),
+        "listing with names" => matches!(number, 1..=16 | CUT | 27),
+        "write name" => matches!(number, 16 | 28),
         _ => false,
     }
 }
@@ -162,7 +172,7 @@ fn can_be_cut(kind: usize, end: usize) -> bool {
 }
 
 fn kind(call: &Call) -> usize {
-    let letters = b"cenlafwoxm";
+    let letters = b"cenlafwoxmENLAr";
     let letter = call.letter();
     letters
         .iter()
@@ -174,7 +184,7 @@ impl fmt::Display for Tally {
     fn fmt(&self, text: &mut fmt::Formatter) -> fmt::Result {
         writeln!(
             text,
-            "{} inputs compared, {} of them with a changed buffer",
+            "{} inputs compared, {} of them with a changed buffer or name file",
             self.inputs, self.changed
         )?;
         for (kind, name) in KINDS.iter().enumerate() {

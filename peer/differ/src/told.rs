@@ -6,11 +6,13 @@ use peer::call::Call;
 /// So much of a buffer, a text or a copy is shown.
 const SHOWN: usize = 4096;
 
-pub fn told(before: &[u8], call: &Call, reply: &Reply, difference: &str) -> String {
+pub fn told(before: &[u8], names: &[u8], call: &Call, reply: &Reply, difference: &str) -> String {
     let peer = shown(reply);
     let bytes = hex(before);
     let length = before.len();
-    format!("{call:?}\nbuffer of {length} bytes: {bytes}\nthe peer gives {peer}\n{difference}")
+    let file = hex(names);
+    let file_length = names.len();
+    format!("{call:?}\nbuffer of {length} bytes: {bytes}\nname file of {file_length} bytes: {file}\nthe peer gives {peer}\n{difference}")
 }
 
 /// An answer that is a text, as the text; a mended copy as its bytes.

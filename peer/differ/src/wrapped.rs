@@ -6,23 +6,35 @@ use peer::answers::{EventAnswer, FoundName, MendAnswer, Reply};
 use peer::call::Call;
 use peer::digest::digest;
 use peer::generate::chance::Chance;
-use peer::{ByteOrder, Context, Header, Mended, Refusal, Summary};
+use peer::{ByteOrder, Context, Header, Mended, NameKind, Named, Refusal, Summary};
 
 /// The length of a text, or what a writing call gives.
 type Written = Result<usize, lepsaino::Refusal>;
 
 /// None for the one kind of call that the library does not have.
 pub fn answer(chance: &mut Chance, loan: &mut Loan, call: &Call) -> Option<Reply> {
-    let buffer = loan.buffer.bytes_mut();
+    let buffer = loan.buffer.bytes();
+    let names = loan.names.bytes();
     Some(match call {
         Call::Check => checked(lepsaino::check(buffer)),
         Call::Event { position } => {
             let given = lepsaino::event(buffer, *position).map_err(refusal);
-            Reply::Event(given.map(|given| event(buffer, &given)))
+            Reply::Event(given.map(|given| EventAnswer {
+                event_name: given.event_name.map(|name| Some(found(loan, name))),
+                ..event(loan, &given)
+            }))
+        }
+        Call::EventWithNames { position } => {
+            let given = lepsaino::event_with_names(buffer, names, *position).map_err(refusal);
+            Reply::Event(given.map(|given| event(loan, &given)))
         }
         Call::FindName { pointer } => {
             let given = lepsaino::find_name(buffer, *pointer).map_err(refusal);
-            Reply::FindName(given.map(|given| given.map(|name| found(buffer, name))))
+            Reply::FindName(given.map(|given| given.map(|name| found(loan, name))))
+        }
+        Call::FindNameWithNames { pointer } => {
+            let given = lepsaino::find_name_with_names(buffer, names, *pointer).map_err(refusal);
+            Reply::FindName(given.map(|given| given.map(|name| found(loan, name))))
         }
         Call::Line {
             reading, position, ..
@@ -31,14 +43,38 @@ pub fn answer(chance: &mut Chance, loan: &mut Loan, call: &Call) -> Option<Reply
             let length = lepsaino::line(buffer, reading, *position, loan.out.bytes_mut());
             text(loan, length)
         }
+        Call::LineWithNames {
+            reading, position, ..
+        } => {
+            let (reading, out) = (arguments::reading(reading), loan.out.bytes_mut());
+            let length = lepsaino::line_with_names(buffer, names, reading, *position, out);
+            text(loan, length)
+        }
         Call::Listing { reading, .. } => {
             let reading = arguments::reading(reading);
             let length = lepsaino::listing(buffer, reading, loan.out.bytes_mut());
             text(loan, length)
         }
+        Call::ListingWithNames { reading, .. } => {
+            let (reading, out) = (arguments::reading(reading), loan.out.bytes_mut());
+            let length = lepsaino::listing_with_names(buffer, names, reading, out);
+            text(loan, length)
+        }
         Call::Mend { .. } => {
             let given = lepsaino::mend(buffer, loan.out.bytes_mut());
             mended(loan, given)
+        }
+        Call::WriteName(naming) => {
+            let record = lepsaino::Naming {
+                thread: naming.named == Named::Thread,
+                number: naming.number,
+                name: loan.name.bytes(),
+            };
+            let done = lepsaino::write_name(loan.names.bytes_mut(), naming.offset, record);
+            Reply::Written {
+                result: done.map_err(refusal),
+                digest: digest(loan.names.bytes()),
+            }
         }
         _ => {
             let done = write(chance, loan, call)?;
@@ -128,7 +164,7 @@ fn summary(checked: lepsaino::Checked) -> Summary {
     }
 }
 
-fn event(dump: &[u8], event: &lepsaino::Event) -> EventAnswer {
+fn event(loan: &Loan, event: &lepsaino::Event) -> EventAnswer {
     EventAnswer {
         words: arguments::words(&event.slot),
         ticks: event.ticks,
@@ -137,15 +173,21 @@ fn event(dump: &[u8], event: &lepsaino::Event) -> EventAnswer {
             lepsaino::Context::Isr => Context::Isr,
             lepsaino::Context::Thread => Context::Thread,
         },
-        name: event.name.map(|name| found(dump, name)),
+        name: event.name.map(|name| found(loan, name)),
+        event_name: Some(event.event_name.map(|name| found(loan, name))),
     }
 }
 
-/// The name is a part of the dump, so the two addresses tell where.
-fn found(dump: &[u8], name: lepsaino::Name) -> FoundName {
+/// The name is a part of the dump or of the name file, so the two addresses tell where.
+fn found(loan: &Loan, name: lepsaino::Name) -> FoundName {
+    let (kind, lent) = match name.kind {
+        lepsaino::NameKind::Live => (NameKind::Live, &loan.buffer),
+        lepsaino::NameKind::Gone => (NameKind::Gone, &loan.buffer),
+        lepsaino::NameKind::Filed => (NameKind::Filed, &loan.names),
+    };
     FoundName {
         bytes: name.bytes.to_vec(),
-        at: name.bytes.as_ptr() as usize - dump.as_ptr() as usize,
-        gone: name.gone,
+        at: name.bytes.as_ptr() as usize - lent.bytes().as_ptr() as usize,
+        kind,
     }
 }

@@ -1,6 +1,6 @@
 //! Writes the file of cases, the answers to it and the keys in them, from a fixed seed.
 
-use peer::answers::{answer, FoundName, MendAnswer, Reply};
+use peer::answers::{answer, EventAnswer, FoundName, MendAnswer, Reply};
 use peer::call::Call;
 use peer::case::Case;
 use peer::generate::{document, Generator};
@@ -11,10 +11,11 @@ use std::collections::HashSet;
 use std::path::Path;
 
 const SEED: u64 = 9_007_199_254_740_992;
-const GENERATED: usize = 4_400;
-const LETTERS: &[u8; 11] = b"cenlafwoxbm";
-const REFUSALS: usize = 26;
-const NAME_KINDS: [&str; 3] = ["none", "live", "gone"];
+const GENERATED: usize = 5_250;
+const LETTERS: &[u8; 16] = b"cenlafwoxbmENLAr";
+const REFUSALS: usize = 28;
+const NAME_KINDS: [&str; 4] = ["none", "live", "gone", "filed"];
+const EVENT_NAMES: [&str; 2] = ["without a name of its own", "with a name of its own"];
 
 #[derive(Default)]
 struct Corpus {
@@ -24,7 +25,7 @@ struct Corpus {
     listed: HashSet<u64>,
     repeated: usize,
     count: usize,
-    calls: [usize; 11],
+    calls: [usize; LETTERS.len()],
     refusals: [usize; REFUSALS + 1],
     with_place: [usize; REFUSALS + 1],
     mended: usize,
@@ -32,15 +33,18 @@ struct Corpus {
     with_count: [usize; COUNTS.len()],
     /// Replies about one event or one name with each kind of name.
     with_name: [usize; NAME_KINDS.len()],
+    /// Replies about one event with a name file.
+    with_event_name: [usize; EVENT_NAMES.len()],
 }
 
 impl Corpus {
     fn add(&mut self, case: &Case) {
         case.encode(&mut self.cases);
         let mut buffer = case.buffer();
-        print_title(&case.title, &buffer, &mut self.printed);
+        let mut names = case.names();
+        print_title(&case.title, &buffer, &names, &mut self.printed);
         for call in &case.calls {
-            let reply = answer(&mut buffer, call);
+            let reply = answer(&mut buffer, &mut names, call);
             print_reply(&reply, &mut self.printed);
             self.add_keys(call, &reply);
             self.tally(call, &reply);
@@ -58,11 +62,14 @@ impl Corpus {
         match call {
             Call::Line {
                 reading, position, ..
-            } => self.add_key('l', reading, *position),
-            Call::Listing { reading, .. } => {
+            }
+            | Call::LineWithNames {
+                reading, position, ..
+            } => self.add_key(call, reading, *position),
+            Call::Listing { reading, .. } | Call::ListingWithNames { reading, .. } => {
                 let lines = text.iter().filter(|&&byte| byte == b'\n').count();
                 for position in 0..lines {
-                    self.add_key('a', reading, position);
+                    self.add_key(call, reading, position);
                     self.repeated += usize::from(!self.listed.insert(reading.key(position)));
                 }
             }
@@ -70,7 +77,8 @@ impl Corpus {
         }
     }
 
-    fn add_key(&mut self, letter: char, reading: &Reading, position: usize) {
+    fn add_key(&mut self, call: &Call, reading: &Reading, position: usize) {
+        let letter = call.letter() as char;
         let key = reading.key(position);
         self.keys.push_str(&format!("{} {}\n", letter, key));
     }
@@ -86,7 +94,7 @@ impl Corpus {
             Reply::Mend {
                 result: Ok(answer), ..
             } => self.tally_mended(answer),
-            Reply::Event(Ok(event)) => self.tally_name(event.name.as_ref()),
+            Reply::Event(Ok(event)) => self.tally_event(event),
             Reply::FindName(Ok(name)) => self.tally_name(name.as_ref()),
             _ => {}
         }
@@ -100,8 +108,16 @@ impl Corpus {
     }
 
     fn tally_name(&mut self, name: Option<&FoundName>) {
-        let kind = name.map_or(0, |name| 1 + usize::from(name.gone));
-        self.with_name[kind] += 1;
+        let kind = name.map_or("none", |name| name.kind.text());
+        let place = NAME_KINDS.iter().position(|&one| one == kind);
+        self.with_name[place.expect("the kind is one of these")] += 1;
+    }
+
+    fn tally_event(&mut self, event: &EventAnswer) {
+        self.tally_name(event.name.as_ref());
+        if let Some(name) = &event.event_name {
+            self.with_event_name[usize::from(name.is_some())] += 1;
+        }
     }
 
     fn table(&self) {
@@ -122,6 +138,9 @@ impl Corpus {
         }
         for (kind, count) in NAME_KINDS.iter().zip(self.with_name) {
             println!("events and names found, {}: {}", kind, count);
+        }
+        for (kind, count) in EVENT_NAMES.iter().zip(self.with_event_name) {
+            println!("events with a file, {}: {}", kind, count);
         }
         println!(
             "keys of whole listings {}, repeated {}",
@@ -160,12 +179,20 @@ fn main() -> std::io::Result<()> {
         corpus.add(&generator.next_case());
     }
     assert_eq!(corpus.repeated, 0, "two whole listings share a key");
+    let least = |letter: u8| if letter == b'b' { 40 } else { 500 };
+    let often = LETTERS
+        .iter()
+        .zip(corpus.calls)
+        .all(|(&letter, count)| count > least(letter));
+    assert!(often, "a call is made too seldom");
     let often = corpus.refusals[1..].iter().all(|&count| count > 100);
     assert!(often, "a refusal is given too seldom");
     let often = corpus.with_count.iter().all(|&count| count > 100);
     assert!(often, "a rule of mending is met too seldom");
     let often = corpus.with_name.iter().all(|&count| count > 100);
     assert!(often, "a kind of name is found too seldom");
+    let often = corpus.with_event_name.iter().all(|&count| count > 100);
+    assert!(often, "an event with or without a name comes too seldom");
     corpus.write(Path::new(&folder))?;
     corpus.table();
     Ok(())

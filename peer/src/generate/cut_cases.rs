@@ -16,7 +16,7 @@ const LENGTHS: [usize; 6] = [47, 48, 71, 72, 167, 168];
 pub fn cut_whole(whole: &Case, unit: u32) -> Vec<Case> {
     let mut buffer = whole.buffer();
     for call in &whole.calls {
-        answer(&mut buffer, call);
+        answer(&mut buffer, &mut [], call);
     }
     LENGTHS
         .iter()

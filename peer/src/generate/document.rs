@@ -1,10 +1,12 @@
-//! The cases that the documents themselves name: 01's whole case, both sides of each line, and the cut dumps, the mending, the first quoted key and the names of removed threads of 02.
+//! The cases that the documents themselves name: 01's whole case, both sides of each line, and the cut dumps, the mending, the first quoted key, the names of removed threads and the name files of 02.
 
 use super::cut_cases::{cut_whole, far_ends};
 use super::draft::Draft;
+use super::filed_cases::filed_cases;
 use super::gone_cases::gone_cases;
 use super::mend_cases::mend_cases;
 use super::microseconds::last_bare_ticks;
+use super::naming_cases::naming_cases;
 use crate::call::{Call, Registration};
 use crate::case::Case;
 use crate::format::{format, Plan};
@@ -47,6 +49,8 @@ pub fn cases() -> Vec<Case> {
     cases.extend(cut);
     cases.extend(mend_cases());
     cases.extend(gone_cases());
+    cases.extend(filed_cases());
+    cases.extend(naming_cases());
     cases
 }
 

@@ -1,4 +1,4 @@
-//! A case in the making: each call is made on the buffer at once, so that the next can fit its state.
+//! A case in the making: each call is made on the buffer and the name file at once, so that the next can fit their state.
 
 use super::chance::Chance;
 use super::readings::{self, Readings};
@@ -8,8 +8,8 @@ use crate::case::Case;
 use crate::check::check;
 use crate::layout::Layout;
 use crate::limits::{INIT_POINTER, ISR_POINTER};
-use crate::line::line;
-use crate::listing::listing;
+use crate::line::line_text;
+use crate::listing::listing_text;
 use crate::reading::Reading;
 use crate::registry::entries;
 
@@ -17,33 +17,41 @@ pub struct Draft {
     title: String,
     start: Vec<u8>,
     pub buffer: Vec<u8>,
+    names_at_start: Vec<u8>,
+    pub names: Vec<u8>,
     /// Pointers that entries and events of this case share.
     pub pointers: Vec<u32>,
     calls: Vec<Call>,
 }
 
-/// No line is longer than this.
-const LONGEST_LINE: usize = 640;
+/// A listing with names may be longer.
 const LARGEST_ROOM: u32 = 1_599_000;
 const LARGEST_ROOM_FOR_COPY: u32 = 65_900;
 
 impl Draft {
+    /// A case without a name file has an empty one.
     pub fn new(title: &str, buffer: Vec<u8>, pointers: Vec<u32>) -> Draft {
+        Draft::with_names(title, buffer, pointers, Vec::new())
+    }
+
+    pub fn with_names(title: &str, buffer: Vec<u8>, pointers: Vec<u32>, names: Vec<u8>) -> Draft {
         Draft {
             title: title.to_string(),
             start: buffer.clone(),
             buffer,
+            names_at_start: names.clone(),
+            names,
             pointers,
             calls: Vec::new(),
         }
     }
 
     pub fn finish(self) -> Case {
-        Case::new(self.title, &self.start, self.calls)
+        Case::new(self.title, &self.start, &self.names_at_start, self.calls)
     }
 
     pub fn make(&mut self, call: Call) -> Reply {
-        let reply = answer(&mut self.buffer, &call);
+        let reply = answer(&mut self.buffer, &mut self.names, &call);
         self.calls.push(call);
         reply
     }
@@ -98,8 +106,8 @@ impl Draft {
         let events = self.events();
         let reading = readings::any(chance, events);
         let position = position(chance, events);
-        let mut output = [0; LONGEST_LINE];
-        let needed = line(&self.buffer, &reading, position, &mut output).unwrap_or(0);
+        let text = line_text(&self.buffer, None, &reading, position);
+        let needed = text.map_or(0, |text| text.len());
         self.make(Call::Line {
             reading,
             position,
@@ -109,19 +117,14 @@ impl Draft {
 
     pub fn listing(&mut self, chance: &mut Chance, readings: &mut Readings) {
         let events = self.events();
-        let reading = if chance.one_in(5) {
-            readings::refused(chance, events)
-        } else {
-            readings.accepted(chance, events)
-        };
+        let reading = readings.mostly_accepted(chance, events);
         let room = room(chance, self.listing_length(&reading));
         self.make(Call::Listing { reading, room });
     }
 
     /// The length of the whole listing, or 0 where it is refused.
     pub fn listing_length(&self, reading: &Reading) -> usize {
-        let mut output = vec![0; LONGEST_LINE * self.events()];
-        listing(&self.buffer, reading, &mut output).unwrap_or(0)
+        listing_text(&self.buffer, None, reading).map_or(0, |text| text.len())
     }
 
     pub fn mend(&mut self, chance: &mut Chance) {
@@ -142,7 +145,7 @@ impl Draft {
     }
 }
 
-fn position(chance: &mut Chance, events: usize) -> usize {
+pub fn position(chance: &mut Chance, events: usize) -> usize {
     let beyond = [events, events + 1, usize::MAX, 1 << 32, usize::MAX / 32 + 1];
     match chance.below(6) {
         0 => chance.pick(&beyond),
@@ -153,9 +156,9 @@ fn position(chance: &mut Chance, events: usize) -> usize {
 }
 
 /// Room for a text of the length: exact, too small, none, or plenty.
-fn room(chance: &mut Chance, needed: usize) -> u32 {
+pub fn room(chance: &mut Chance, needed: usize) -> u32 {
     let needed = needed as u32;
-    match chance.below(16) {
+    let room = match chance.below(16) {
         0..=4 => needed,
         5 | 6 => needed.saturating_sub(1),
         7 => 0,
@@ -164,7 +167,8 @@ fn room(chance: &mut Chance, needed: usize) -> u32 {
         10 | 11 => 8 * needed,
         12 if chance.one_in(20) => LARGEST_ROOM,
         _ => needed + chance.below(300) as u32,
-    }
+    };
+    room.min(LARGEST_ROOM)
 }
 
 /// Room for a copy of the length: exact, too small by one or more, none, or plenty.

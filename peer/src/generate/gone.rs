@@ -4,7 +4,7 @@ use super::chance::Chance;
 use super::draft::Draft;
 use super::names::name;
 use super::sketch::EntrySketch;
-use super::sound::{sound, Measure};
+use super::sound::{fresh_entry, sound, Measure};
 use super::values;
 use super::writes::{plan_and_buffer, record, registration};
 use super::Generator;
@@ -44,8 +44,12 @@ fn one_or_two(chance: &mut Chance) -> Vec<u32> {
     pointers
 }
 
-/// Mostly a thread that is gone or one in use, or another object that was removed or is in use.
+/// Mostly a thread that is gone or one in use, or another object that was removed or is in use; or nothing yet.
 fn set_state(chance: &mut Chance, entry: &mut EntrySketch) {
+    if chance.one_in(8) {
+        *entry = fresh_entry(entry.name_field.len());
+        return;
+    }
     let in_use = values::flag_in_use(chance);
     let other = values::other_kind(chance);
     let never = values::bad_kind(chance);

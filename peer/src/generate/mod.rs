@@ -6,12 +6,17 @@ pub mod cut_cases;
 pub mod damage;
 pub mod document;
 pub mod draft;
+mod draft_names;
+pub mod filed;
+pub mod filed_cases;
 pub mod gone;
 pub mod gone_cases;
 pub mod mend_cases;
 pub mod mending;
 pub mod microseconds;
+pub mod name_files;
 pub mod names;
+pub mod naming_cases;
 pub mod readings;
 pub mod reads;
 pub mod sketch;
@@ -48,7 +53,7 @@ impl Generator {
     }
 
     pub fn next_case(&mut self) -> Case {
-        let mut case = match self.chance.below(242) {
+        let mut case = match self.chance.below(312) {
             0..=23 => reads::sound_dump(self),
             24..=35 => gone::gone_threads(self),
             36..=45 => reads::many_threads(self),
@@ -67,7 +72,14 @@ impl Generator {
             201..=214 => writes::formatting(self),
             215..=226 => mending::one_harm(self),
             227..=238 => mending::several_harms(self),
-            _ => mending::harms_and_refusal(self),
+            239..=241 => mending::harms_and_refusal(self),
+            242..=269 => filed::sound_names(self),
+            270..=280 => filed::damaged_names(self),
+            281..=293 => filed::all_broken(self),
+            294..=301 => filed::written_names(self),
+            302..=306 => filed::name_offsets(self),
+            307..=310 => filed::many_names(self),
+            _ => filed::long_name(self),
         };
         self.made += 1;
         case.title = format!("{} {}", self.made, case.title);

@@ -60,6 +60,15 @@ impl Readings {
         }
     }
 
+    /// One that is refused, now and then.
+    pub fn mostly_accepted(&mut self, chance: &mut Chance, events: usize) -> Reading {
+        if chance.one_in(5) {
+            refused(chance, events)
+        } else {
+            self.accepted(chance, events)
+        }
+    }
+
     fn at_an_edge(&mut self, chance: &mut Chance, events: u64) -> (u32, u64) {
         let index = chance.below(self.frontiers.len());
         let distinct = self.distinct;

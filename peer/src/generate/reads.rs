@@ -37,7 +37,7 @@ pub fn sound_dump(generator: &mut Generator) -> Case {
 }
 
 /// Distances between pointers at which a table by remainder, by low bits or by a product with the golden ratio has one place for all.
-const DISTANCES: [u32; 11] = [
+pub const DISTANCES: [u32; 11] = [
     1, 4, 251, 256, 509, 1_021, 2_042, 3_063, 1_024, 46_368, 65_536,
 ];
 

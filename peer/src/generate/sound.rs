@@ -82,7 +82,7 @@ fn leftover(chance: &mut Chance) -> Vec<u8> {
 }
 
 fn entry(chance: &mut Chance, name_size: usize, pointers: &[u32]) -> EntrySketch {
-    if chance.one_in(15) {
+    if chance.one_in(10) {
         return fresh_entry(name_size);
     }
     let free = chance.one_in(3);
@@ -107,7 +107,7 @@ fn entry(chance: &mut Chance, name_size: usize, pointers: &[u32]) -> EntrySketch
 }
 
 /// As formatting leaves it.
-fn fresh_entry(name_size: usize) -> EntrySketch {
+pub fn fresh_entry(name_size: usize) -> EntrySketch {
     EntrySketch {
         flag: FREE,
         kind: 0,
@@ -169,7 +169,7 @@ pub fn event(chance: &mut Chance, stamp: u32, pointers: &[u32]) -> [u32; 8] {
 fn field(chance: &mut Chance, pointer: u32, pointers: &[u32]) -> u32 {
     match chance.below(12) {
         0 => chance.pick(&[0, u32::MAX]),
-        1 if pointer == ISR_POINTER => 0,
+        1 | 2 if pointer == ISR_POINTER => 0,
         2..=6 => chance.pick(pointers),
         _ if pointer == ISR_POINTER => chance.pick(pointers),
         _ => 16,

@@ -32,19 +32,46 @@ pub enum Context {
     Thread,
 }
 
-/// A thread's name, which is a part of the dump; the thread is gone where its entry is free again.
 #[derive(Clone, Copy, Debug, PartialEq, Eq)]
-pub struct Name<'dump> {
-    pub bytes: &'dump [u8],
-    pub gone: bool,
+pub enum NameKind {
+    /// Of a thread whose entry is in use.
+    Live,
+    /// Of a thread whose entry is free again.
+    Gone,
+    /// From the name file.
+    Filed,
+}
+
+/// A part of the name file where it is filed, of the dump where it is not.
+#[derive(Clone, Copy, Debug, PartialEq, Eq)]
+pub struct Name<'lent> {
+    pub bytes: &'lent [u8],
+    pub kind: NameKind,
 }
 
 #[derive(Clone, Copy, Debug, PartialEq, Eq)]
-pub struct Event<'dump> {
+pub struct Event<'lent> {
     pub slot: Slot,
     pub ticks: u64,
     pub context: Context,
-    pub name: Option<Name<'dump>>,
+    pub name: Option<Name<'lent>>,
+    /// The event's own name, which only a name file can have.
+    pub event_name: Option<Name<'lent>>,
+}
+
+/// What is recorded in a name file: an event's id or a thread's pointer, and its name.
+#[derive(Clone, Copy, Debug, PartialEq, Eq)]
+pub struct Naming<'lent> {
+    pub thread: bool,
+    pub number: u32,
+    pub name: &'lent [u8],
+}
+
+/// What a call is lent to find names in; without a name file no name can be filed.
+#[derive(Clone, Copy)]
+pub(crate) struct Lent<'lent> {
+    pub dump: &'lent [u8],
+    pub names: Option<&'lent [u8]>,
 }
 
 /// The length of a mended copy, and what was mended.
@@ -104,33 +131,47 @@ pub(crate) fn mended(answer: raw::Mended) -> Result<Mended, Refusal> {
     })
 }
 
-pub(crate) fn event(dump: &[u8], answer: raw::Event) -> Result<Event<'_>, Refusal> {
+pub(crate) fn event(lent: Lent<'_>, answer: raw::Event) -> Result<Event<'_>, Refusal> {
     unless_refused(answer.refusal, answer.place, || Event {
         slot: answer.slot,
         ticks: answer.ticks,
         context: context(answer.context),
-        name: part(dump, answer.name_kind, answer.name_at, answer.name_length),
+        name: part(lent, answer.name_kind, answer.name_at, answer.name_length),
+        event_name: own(part(
+            lent,
+            answer.event_kind,
+            answer.event_at,
+            answer.event_length,
+        )),
     })
 }
 
-pub(crate) fn name(dump: &[u8], answer: raw::Name) -> Result<Option<Name<'_>>, Refusal> {
+pub(crate) fn name(lent: Lent<'_>, answer: raw::Name) -> Result<Option<Name<'_>>, Refusal> {
     unless_refused(answer.refusal, answer.place, || {
-        part(dump, answer.kind, answer.at, answer.length)
+        part(lent, answer.kind, answer.at, answer.length)
     })
 }
 
-fn part(dump: &[u8], kind: u32, at: usize, length: usize) -> Option<Name<'_>> {
-    let gone = match kind {
-        raw::NAMELESS => return None,
-        raw::LIVE => false,
-        raw::GONE => true,
+fn part(lent: Lent<'_>, kind: u32, at: usize, length: usize) -> Option<Name<'_>> {
+    let (kind, whole) = match (kind, lent.names) {
+        (raw::NAMELESS, _) => return None,
+        (raw::LIVE, _) => (NameKind::Live, lent.dump),
+        (raw::GONE, _) => (NameKind::Gone, lent.dump),
+        (raw::FILED, Some(names)) => (NameKind::Filed, names),
         _ => panic!(
-            "the library gave the kind of name {}, which the header does not name",
+            "the library gave the kind of name {}, which this call does not have",
             kind
         ),
     };
-    let bytes = &dump[at..][..length];
-    Some(Name { bytes, gone })
+    let bytes = &whole[at..][..length];
+    Some(Name { bytes, kind })
+}
+
+/// An event's own name is in no dump.
+fn own(name: Option<Name<'_>>) -> Option<Name<'_>> {
+    let of_dump = name.map_or(false, |name| name.kind != NameKind::Filed);
+    assert!(!of_dump, "the library gave an event a thread's name");
+    name
 }
 
 fn context(number: u32) -> Context {

@@ -47,6 +47,7 @@ pub const THREAD: u32 = 3;
 pub const NAMELESS: u32 = 0;
 pub const LIVE: u32 = 1;
 pub const GONE: u32 = 2;
+pub const FILED: u32 = 3;
 
 #[repr(C)]
 #[derive(Clone, Copy, Debug, Default, PartialEq, Eq)]
@@ -59,6 +60,9 @@ pub struct Event {
     pub name_kind: u32,
     pub name_at: usize,
     pub name_length: usize,
+    pub event_kind: u32,
+    pub event_at: usize,
+    pub event_length: usize,
 }
 
 #[repr(C)]
@@ -161,6 +165,48 @@ extern "C" {
         reading: Reading,
         out: *mut u8,
         out_length: usize,
+    ) -> Answer;
+    pub fn lepsaino_event_with_names(
+        dump: *const u8,
+        dump_length: usize,
+        names: *const u8,
+        names_length: usize,
+        position: usize,
+    ) -> Event;
+    pub fn lepsaino_find_name_with_names(
+        dump: *const u8,
+        dump_length: usize,
+        names: *const u8,
+        names_length: usize,
+        pointer: u32,
+    ) -> Name;
+    pub fn lepsaino_line_with_names(
+        dump: *const u8,
+        dump_length: usize,
+        reading: Reading,
+        position: usize,
+        names: *const u8,
+        names_length: usize,
+        out: *mut u8,
+        out_length: usize,
+    ) -> Answer;
+    pub fn lepsaino_listing_with_names(
+        dump: *const u8,
+        dump_length: usize,
+        reading: Reading,
+        names: *const u8,
+        names_length: usize,
+        out: *mut u8,
+        out_length: usize,
+    ) -> Answer;
+    pub fn lepsaino_write_name(
+        names: *mut u8,
+        names_length: usize,
+        offset: usize,
+        thread: u32,
+        number: u32,
+        name: *const u8,
+        name_length: usize,
     ) -> Answer;
     pub fn lepsaino_number(out: *mut u8, out_length: usize, number: u64) -> usize;
     pub fn lepsaino_mend(

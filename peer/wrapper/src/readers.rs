@@ -1,6 +1,6 @@
 //! The calls that read a dump.
 
-use crate::answers::{self, Checked, Event, Mended, Name, Refusal};
+use crate::answers::{self, Checked, Event, Lent, Mended, Name, Refusal};
 use crate::raw::{self, Reading};
 
 /// Checks a dump: 1 to 7, 26, 8, 9, 26, 10 to 13.
@@ -9,10 +9,15 @@ pub fn check(dump: &[u8]) -> Result<Checked, Refusal> {
     answers::checked(unsafe { raw::lepsaino_check(dump.as_ptr(), dump.len()) })
 }
 
+/// A dump without a name file.
+fn alone(dump: &[u8]) -> Lent<'_> {
+    Lent { dump, names: None }
+}
+
 /// One event by its position, from 0, oldest first: checks 1 to 13 with 26, then 25.
 pub fn event(dump: &[u8], position: usize) -> Result<Event<'_>, Refusal> {
     // SAFETY: the slice may be read for its length, and nothing writes it while it is borrowed.
-    answers::event(dump, unsafe {
+    answers::event(alone(dump), unsafe {
         raw::lepsaino_event(dump.as_ptr(), dump.len(), position)
     })
 }
@@ -20,7 +25,7 @@ pub fn event(dump: &[u8], position: usize) -> Result<Event<'_>, Refusal> {
 /// The name of the lowest live thread with a pointer, or else of the lowest that is gone: checks 1 to 11 with 26.
 pub fn find_name(dump: &[u8], pointer: u32) -> Result<Option<Name<'_>>, Refusal> {
     // SAFETY: the slice may be read for its length, and nothing writes it while it is borrowed.
-    answers::name(dump, unsafe {
+    answers::name(alone(dump), unsafe {
         raw::lepsaino_find_name(dump.as_ptr(), dump.len(), pointer)
     })
 }

@@ -1,6 +1,6 @@
-//! The calls that write into a buffer.
+//! The calls that write into a buffer or a name file.
 
-use crate::answers::{self, Refusal};
+use crate::answers::{self, Naming, Refusal};
 use crate::raw::{self, Format, Object, Slot};
 
 /// Formats a buffer and gives the number of slots: checks 2, 4, 5, 24.
@@ -33,4 +33,20 @@ pub fn register(buffer: &mut [u8], object: Object, name: &[u8]) -> Result<usize,
 pub fn remove(buffer: &mut [u8], pointer: u32) -> Result<usize, Refusal> {
     // SAFETY: the buffer is borrowed for this call alone, so that it may be read and written for its length.
     answers::value(unsafe { raw::lepsaino_remove(buffer.as_mut_ptr(), buffer.len(), pointer) })
+}
+
+/// Writes one record of a name file at an offset and gives the record's length: checks 28, 16.
+pub fn write_name(names: &mut [u8], offset: usize, naming: Naming) -> Result<usize, Refusal> {
+    // SAFETY: the name file is borrowed for this call alone, so that it may be written and does not overlap the name.
+    answers::value(unsafe {
+        raw::lepsaino_write_name(
+            names.as_mut_ptr(),
+            names.len(),
+            offset,
+            u32::from(naming.thread),
+            naming.number,
+            naming.name.as_ptr(),
+            naming.name.len(),
+        )
+    })
 }

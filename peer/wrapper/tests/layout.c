@@ -65,6 +65,9 @@ static void events(void)
     FIELD(event, name_kind);
     FIELD(event, name_at);
     FIELD(event, name_length);
+    FIELD(event, event_kind);
+    FIELD(event, event_at);
+    FIELD(event, event_length);
 }
 
 static void arguments(void)
@@ -116,6 +119,6 @@ int main(void)
     arguments();
     states();
     printf("contexts %d %d %d\n", LEPSAINO_INIT, LEPSAINO_ISR, LEPSAINO_THREAD);
-    printf("kinds of name %d %d %d\n", LEPSAINO_NAMELESS, LEPSAINO_LIVE, LEPSAINO_GONE);
+    printf("kinds of name %d %d %d %d\n", LEPSAINO_NAMELESS, LEPSAINO_LIVE, LEPSAINO_GONE, LEPSAINO_FILED);
     return 0;
 }

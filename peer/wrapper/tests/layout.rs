@@ -29,7 +29,8 @@ fn from_rust() -> String {
         layout!("name", Name, refusal place kind at length),
         layout!("mended", Mended, refusal place length missing current types ids packed moved),
         layout!("slot", Slot, pointer field id stamp first second third fourth),
-        layout!("event", Event, refusal place slot ticks context name_kind name_at name_length),
+        layout!("event", Event, refusal place slot ticks context name_kind name_at name_length
+            event_kind event_at event_length),
         layout!("reading", Reading, rate unit serial),
         layout!("format", Format, big base mask name_size entries),
         layout!("object", Object, object_type pointer parameter_one parameter_two
@@ -37,7 +38,7 @@ fn from_rust() -> String {
         layout!("pieces", Pieces, header entries entry_size start slots slot_size current front
             came entries_passed bad_type slots_passed unused behind no_id total),
         format!("contexts {} {} {}\n", INIT, ISR, THREAD),
-        format!("kinds of name {} {} {}\n", NAMELESS, LIVE, GONE),
+        format!("kinds of name {} {} {} {}\n", NAMELESS, LIVE, GONE, FILED),
     ]
     .concat()
 }

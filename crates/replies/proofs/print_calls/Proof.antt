@@ -6,10 +6,13 @@ use Rattle.replies.proofs.print_calls.Statement.{statement}
 use Rattle.replies.proofs.print_calls.Tie as tie
 
 abbrev Inv-loop : tie.InvT-loop
-Inv-loop file buffer₀ turns₀ buffer turns = length buffer ≡ length buffer₀
+Inv-loop file buffer₀ names₀ turns₀ buffer names turns = (length buffer ≡ length buffer₀) × (length names ≡ length names₀)
 
 abbrev μ-loop : tie.MeasureT-loop
-μ-loop file buffer₀ turns₀ buffer turns = turns
+μ-loop file buffer₀ names₀ turns₀ buffer names turns = turns
+
+print-mixed-requires : tie.Need-print-mixed-requires Inv-loop μ-loop
+print-mixed-requires c κs = search needs
 
 print-digest-requires : tie.Need-print-digest-requires Inv-loop μ-loop
 print-digest-requires c κs = search needs
@@ -32,11 +35,17 @@ loop-again c = search needs
 same-length : tie.Need-same-length Inv-loop μ-loop
 same-length c = search needs
 
+same-length-2 : tie.Need-same-length-2 Inv-loop μ-loop
+same-length-2 c = search needs
+
 returns : tie.Need-returns Inv-loop μ-loop
 returns c = search needs
 
-same-length-2 : tie.Need-same-length-2 Inv-loop μ-loop
-same-length-2 c = search needs
+same-length-3 : tie.Need-same-length-3 Inv-loop μ-loop
+same-length-3 c = search needs
+
+same-length-4 : tie.Need-same-length-4 Inv-loop μ-loop
+same-length-4 c = search needs
 
 returns-2 : tie.Need-returns-2 Inv-loop μ-loop
 returns-2 c = search needs
@@ -47,6 +56,7 @@ print-calls-spec =
     (tie.spec
     Inv-loop
     μ-loop
+    print-mixed-requires
     print-digest-requires
     loop-holds
     print-next-requires
@@ -54,6 +64,8 @@ print-calls-spec =
     loop-less
     loop-again
     same-length
-    returns
     same-length-2
+    returns
+    same-length-3
+    same-length-4
     returns-2)

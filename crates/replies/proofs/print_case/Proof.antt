@@ -1,8 +1,8 @@
 -- `replies::print_case` is safe: what is lent is as long as it was asked for.
-use borrow.Author.Needs.{needs}
-use native.Mathlib.Omega.{arith}
 use mathlib.Core.Path.{sym}
+use native.Mathlib.Omega.{arith}
 use lib.Seq.{length-take-le}
+use borrow.Author.Needs.{needs}
 use Rattle.replies.proofs.print_case.Statement.{statement}
 use Rattle.replies.proofs.print_case.Tie as tie
 
@@ -24,32 +24,47 @@ read-number-requires-2 c κs = search needs
 cast-length : tie.Need-cast-length
 cast-length c = search needs
 
-read-number-requires-3 : tie.Need-read-number-requires-3
-read-number-requires-3 c κs = search needs
-
-cast-filled : tie.Need-cast-filled
-cast-filled c = search needs
+read-fill-requires : tie.Need-read-fill-requires
+read-fill-requires c κs = search needs
 
 filled-requires : tie.Need-filled-requires
 filled-requires c κs = search needs
 
-read-number-requires-4 : tie.Need-read-number-requires-4
-read-number-requires-4 c κs = search needs
+slice-aggregate-read-front : tie.Need-slice-aggregate-read-front
+slice-aggregate-read-front c = search needs
 
-cast-front : tie.Need-cast-front
-cast-front c = search needs
+read-front-requires : tie.Need-read-front-requires
+read-front-requires c κs = search needs
 
-slice-aggregate-read-some : tie.Need-slice-aggregate-read-some
-slice-aggregate-read-some c = search needs
+read-number-requires-3 : tie.Need-read-number-requires-3
+read-number-requires-3 c κs = search needs
 
-read-some-requires : tie.Need-read-some-requires
-read-some-requires c κs = search needs
+cast-names-length : tie.Need-cast-names-length
+cast-names-length c = search needs
 
-array-borrow-prefix-bytes : tie.Need-array-borrow-prefix-bytes
-array-borrow-prefix-bytes c = search needs
+read-fill-requires-2 : tie.Need-read-fill-requires-2
+read-fill-requires-2 c κs = search needs
+
+filled-requires-2 : tie.Need-filled-requires-2
+filled-requires-2 c κs = search needs
+
+slice-aggregate-read-front-2 : tie.Need-slice-aggregate-read-front-2
+slice-aggregate-read-front-2 c = search needs
+
+read-front-requires-2 : tie.Need-read-front-requires-2
+read-front-requires-2 c κs = search needs
+
+array-borrow-prefix-buffer : tie.Need-array-borrow-prefix-buffer
+array-borrow-prefix-buffer c = search needs
 
 slice-aggregate-print-calls : tie.Need-slice-aggregate-print-calls
 slice-aggregate-print-calls c = sym (length-take-le _ _ (omega arith))
+
+array-borrow-prefix-names : tie.Need-array-borrow-prefix-names
+array-borrow-prefix-names c = search needs
+
+slice-aggregate-print-calls-2 : tie.Need-slice-aggregate-print-calls-2
+slice-aggregate-print-calls-2 c = sym (length-take-le _ _ (omega arith))
 
 print-calls-requires : tie.Need-print-calls-requires
 print-calls-requires c κs = search needs
@@ -59,6 +74,9 @@ returns-2 c = search needs
 
 returns-3 : tie.Need-returns-3
 returns-3 c = search needs
+
+returns-4 : tie.Need-returns-4
+returns-4 c = search needs
 
 pub print-case-spec : {M : Type 1} → statement M
 print-case-spec =
@@ -70,15 +88,21 @@ print-case-spec =
     print-title-requires
     read-number-requires-2
     cast-length
-    read-number-requires-3
-    cast-filled
+    read-fill-requires
     filled-requires
-    read-number-requires-4
-    cast-front
-    slice-aggregate-read-some
-    read-some-requires
-    array-borrow-prefix-bytes
+    slice-aggregate-read-front
+    read-front-requires
+    read-number-requires-3
+    cast-names-length
+    read-fill-requires-2
+    filled-requires-2
+    slice-aggregate-read-front-2
+    read-front-requires-2
+    array-borrow-prefix-buffer
     slice-aggregate-print-calls
+    array-borrow-prefix-names
+    slice-aggregate-print-calls-2
     print-calls-requires
     returns-2
-    returns-3)
+    returns-3
+    returns-4)

@@ -16,6 +16,9 @@ enum-known-name c = search needs
 kind-number-requires : tie.Need-kind-number-requires
 kind-number-requires c κs = search needs
 
+enum-known-name-2 : tie.Need-enum-known-name-2
+enum-known-name-2 c = search needs
+
 returns : tie.Need-returns
 unfolding nameAnswer foundTold nameNumbers
 returns c = rw (c .enum-told .given .1)
@@ -24,6 +27,18 @@ returns-2 : tie.Need-returns-2
 unfolding nameAnswer foundTold nameNumbers
 returns-2 c = rw (c .kind-number .ensures) (sym (ap (λ name. nameAnswer (Searched name)) (c .before .before .name .given .1)))
 
+returns-3 : tie.Need-returns-3
+unfolding nameAnswer foundTold nameNumbers
+returns-3 c = sym (ap (λ name. nameAnswer (Searched name)) (c .before .name2 .given .1))
+
 pub name-given-spec : {M : Type 1} → statement M
 name-given-spec =
-    tie.close (tie.spec enum-told enum-known-name kind-number-requires returns returns-2)
+    tie.close
+    (tie.spec
+    enum-told
+    enum-known-name
+    kind-number-requires
+    enum-known-name-2
+    returns
+    returns-2
+    returns-3)

@@ -1,13 +1,14 @@
--- `listing::one::line_of_sound` meets its contract: rows 25 and 16 follow rows 14 and 15.
-use mathlib.Core.List.{[], _∷_}
+-- `listing::one::line_of_sound` meets its contract: rows 25 and 16 follow rows 14 and 15 and those of a name file.
+use mathlib.Core.List.{List, [], _∷_}
 use mathlib.Core.Path.{sym, _∙_}
 use lib.ListN.{length}
+use Rattle.naming.specs.Records.{ifGiven}
 use Rattle.rows.specs.Rows.{Row}
-use mathlib.Core.List.{List}
 use Rattle.trace.specs.Slots.{eventCount}
 use Rattle.trace.specs.Table.{row16, row25}
-use Rattle.events.specs.Listing.{lineAt, readingRows}
+use Rattle.events.specs.Listing.{lineAt, termRows}
 use Rattle.listing.proofs.Answers.{gave-more, gave-refused}
+use Rattle.listing.proofs.Fitting.{listable}
 use borrow.Author.Needs.{needs}
 use Rattle.listing.proofs.one.line_of_sound.Statement.{statement}
 use Rattle.listing.proofs.one.line_of_sound.Tie as tie
@@ -16,10 +17,10 @@ use Rattle.listing.proofs.one.line_of_sound.Tie as tie
 last : (s : tie.Start) → List Row
 last s =
     let a = s .args in
-    row25 (a .position) (eventCount (a .dump .now) (a .header)) ∷ row16 (length (lineAt (a .dump .now) (a .header) (a .reading) (a .position))) (length (a .out .now)) ∷ []
+    row25 (a .position) (eventCount (a .dump .now) (a .header)) ∷ row16 (length (lineAt (ifGiven (a .given) (a .names .now)) (a .dump .now) (a .header) (a .reading) (a .position))) (length (a .out .now)) ∷ []
 
-reading-verdict-requires : tie.Need-reading-verdict-requires
-reading-verdict-requires c κs = search needs
+term-verdict-requires : tie.Need-term-verdict-requires
+term-verdict-requires c κs = search needs
 
 enum-known-refusal : tie.Need-enum-known-refusal
 enum-known-refusal c = search needs
@@ -29,17 +30,17 @@ enum-told c = search needs
 
 accepted-line-requires : tie.Need-accepted-line-requires
 accepted-line-requires c κs =
-    let s = c .before .before .before .before .before .before in
-    let passed = rw (s .pre .1) at (sym (c .before .before .before .reading-verdict .ensures) ∙ c .before .enum-told .given .1) in
-    record { sound = s .pre .0; count = s .pre .1; terms = passed }
+    let s = c .before .before .before .before .before .before .before in
+    let a = s .args in
+    listable (ifGiven (a .given) (a .names .now)) (a .dump .now) (a .header) (a .reading) (a .events) (s .pre .0) (s .pre .1) (sym (c .before .before .before .term-verdict .ensures) ∙ c .before .enum-told .given .1)
 
 returns : tie.Need-returns
 unfolding last
 returns c =
-    let s = c .before .before .before .before .before .before in
+    let s = c .before .before .before .before .before .before .before in
     let a = s .args in
-    let refused = rw (s .pre .1) at (sym (c .before .before .before .reading-verdict .ensures) ∙ c .before .refusal .given .1) in
-    gave-refused (readingRows (a .reading) (eventCount (a .dump .now) (a .header))) (last s) _ refused
+    let refused = rw (s .pre .1) at (sym (c .before .before .before .term-verdict .ensures) ∙ c .before .refusal .given .1) in
+    gave-refused (termRows (ifGiven (a .given) (a .names .now)) (a .reading) (eventCount (a .dump .now) (a .header))) (last s) _ refused
 
 same-length : tie.Need-same-length
 same-length c = search needs
@@ -47,16 +48,16 @@ same-length c = search needs
 returns-2 : tie.Need-returns-2
 unfolding last
 returns-2 c =
-    let s = c .before .before .before .before .before .before .before .before .before in
+    let s = c .before .before .before .before .before .before .before .before .before .before in
     let a = s .args in
-    let passed = rw (s .pre .1) at (sym (c .before .before .before .before .before .before .reading-verdict .ensures) ∙ c .before .before .before .before .enum-told .given .1) in
-    gave-more (readingRows (a .reading) (eventCount (a .dump .now) (a .header))) (last s) passed (c .before .before .accepted-line .ensures)
+    let passed = rw (s .pre .1) at (sym (c .before .before .before .before .before .before .term-verdict .ensures) ∙ c .before .before .before .before .enum-told .given .1) in
+    gave-more (termRows (ifGiven (a .given) (a .names .now)) (a .reading) (eventCount (a .dump .now) (a .header))) (last s) passed (c .before .before .accepted-line .ensures)
 
 pub line-of-sound-spec : {M : Type 1} → statement M
 line-of-sound-spec =
     tie.close
     (tie.spec
-    reading-verdict-requires
+    term-verdict-requires
     enum-known-refusal
     enum-told
     accepted-line-requires

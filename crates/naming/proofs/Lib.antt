@@ -1,0 +1,5 @@
+pub mod Accepted
+pub mod Named
+pub mod ReadBack
+pub mod Records
+pub mod Rest

@@ -1,0 +1,3 @@
+pub mod Finding
+pub mod Records
+pub mod Writing
