@@ -20,6 +20,8 @@ GOALS = [
     for competitor, goal in TEXT_GOALS.items()
     if job != "numbers" or competitor not in LISTING_ONLY
 ]
+# With a name file a listing is not slower than where all names go into maps.
+GOALS += [("listing-filed", "itoa-map", 1)]
 # No number is slower than with itoa, whatever its length.
 GOALS += [(f"digits-{digits}", "itoa", 1) for digits in DIGITS]
 # However the pointers lie, names make a listing take at most three times as long; crowded ones are only shown.

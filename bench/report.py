@@ -9,6 +9,7 @@ from titles import COMPETITORS, DIGITS, JOBS, SHAPES
 
 OURS = "lepsaino"
 MODULE = "node-module"
+WITHOUT_FILE = "lepsaino-fileless"
 
 
 def read(path):
@@ -96,6 +97,28 @@ def entry_growth(growth):
     return table(heads, rows, words=0)
 
 
+def filed_event_growth(growth):
+    rows = []
+    for job, row in growth.items():
+        if job.startswith("filed-events-"):
+            count = int(job.rpartition("-")[2])
+            ours, without, by_map = (row[name][0] for name in [OURS, WITHOUT_FILE, "itoa-map"])
+            rows.append([f"{count:,}", time_text(ours * count), f"{ours:.1f}", f"{without:.1f}", f"{by_map:.1f}"])
+    heads = ["events", "the library, the whole listing", "the library, ns for each event", "the same without the file", "Rust with itoa, names in maps"]
+    return table(heads, rows, words=0)
+
+
+def record_growth(growth):
+    rows = []
+    for job, row in growth.items():
+        if job.startswith(("filed-records-", "filed-crowded-")):
+            _, shape, count = job.split("-")
+            times = [f"{row[name][0]:.1f}" for name in [OURS, WITHOUT_FILE, "itoa-map"]]
+            rows.append([SHAPES["irregular" if shape == "records" else shape], f"{int(count):,}", *times])
+    heads = ["numbers", "records", "the library, ns for each event", "the same without the file", "Rust with itoa, names in maps"]
+    return table(heads, rows, words=1)
+
+
 def shapes(growth):
     rows = []
     for job, row in growth.items():
@@ -156,6 +179,8 @@ def main():
         "events": event_growth(growth),
         "entries": entry_growth(growth),
         "shapes": shapes(growth),
+        "filed events": filed_event_growth(growth),
+        "records": record_growth(growth),
         "lengths": lengths(growth, counts),
         "node": in_node(times),
         "times": all_times(times),

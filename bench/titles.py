@@ -6,6 +6,7 @@ JOBS = {
     "listing-exact": "listing, 2,046 events, no entries, no room to spare",
     "listing-names": "listing, 1,446 events, 400 names",
     "listing-gone": "listing, 1,446 events, 400 names of removed threads",
+    "listing-filed": "listing, 1,446 events, 400 names, a name file of 1,500 records",
     "check": "checking the full dump",
     "check-big": "checking the full dump, big-endian",
     "check-entries": "checking 1,109 events, 1,500 entries",
@@ -45,6 +46,7 @@ JOBS |= {f"digits-{digits}": f"printing one number of {digits} digit{'s' if digi
 COMPETITORS = {
     "lepsaino": "the library",
     "lepsaino-nameless": "the library without names",
+    "lepsaino-fileless": "the library without the name file",
     "lepsaino-plenty": "the library with plenty of room",
     "lepsaino-whole": "the library with the whole dump",
     "itoa": "Rust with itoa",

@@ -19,15 +19,26 @@ fn compare_listing(dump: &[u8], reading: &peer::Reading) {
     let mut room = vec![0; 1_600_000];
     let length = peer::listing(dump, reading, &mut room).map_err(refused_by_peer);
     let expected = length.map(|length| room[..length].to_vec());
-    let lepsaino = lepsaino::Reading {
+    for list in [with_itoa::listing, with_itoa::listing_by_map] {
+        let mut out = Vec::new();
+        let given = list(dump, for_library(reading), &mut out).map(|()| out);
+        assert!(given == expected, "another listing");
+    }
+}
+
+fn compare_listing_with_names(dump: &[u8], names: &[u8], reading: &peer::Reading) {
+    let expected = peer::listing::listing_text(dump, Some(names), reading);
+    let mut out = Vec::new();
+    let given = with_itoa::listing_with_names(dump, names, for_library(reading), &mut out);
+    let same = given.map(|()| out) == expected.map_err(refused_by_peer);
+    assert!(same, "another listing with names");
+}
+
+fn for_library(reading: &peer::Reading) -> lepsaino::Reading {
+    lepsaino::Reading {
         rate: reading.rate,
         unit: reading.unit,
         serial: reading.serial,
-    };
-    for list in [with_itoa::listing, with_itoa::listing_by_map] {
-        let mut out = Vec::new();
-        let given = list(dump, lepsaino, &mut out).map(|()| out);
-        assert!(given == expected, "another listing");
     }
 }
 
@@ -85,6 +96,9 @@ fn baselines_agree_with_the_peer() {
             match call {
                 Call::Line { reading, .. } | Call::Listing { reading, .. } => {
                     compare_listing(&buffer, reading)
+                }
+                Call::LineWithNames { reading, .. } | Call::ListingWithNames { reading, .. } => {
+                    compare_listing_with_names(&buffer, &names, reading)
                 }
                 Call::Check => {
                     compare_check(&buffer);

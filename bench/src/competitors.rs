@@ -10,6 +10,8 @@ const ROOM: usize = 1_600_000;
 
 /// Writes a text to the front of the output, which it may use again, and gives its length.
 pub type Lister = fn(&[u8], Reading, &mut Vec<u8>) -> usize;
+/// The same with a name file, behind the dump.
+pub type NamedLister = fn(&[u8], &[u8], Reading, &mut Vec<u8>) -> usize;
 pub type Printer = fn(&[u64], &mut Vec<u8>) -> usize;
 /// Gives the number of events.
 pub type Checker = fn(&[u8]) -> Result<usize, Refusal>;
@@ -48,6 +50,25 @@ pub const LISTERS: [(&str, Lister); 5] = [
         peer::listing(dump, &reading, out).unwrap()
     }),
 ];
+
+pub const NAMED_LISTERS: [(&str, NamedLister); 3] = [
+    ("lepsaino", |dump, names, reading, out| {
+        lend(out);
+        lepsaino::listing_with_names(dump, names, reading, out).unwrap()
+    }),
+    ("itoa-map", |dump, names, reading, out| {
+        with_itoa::listing_with_names(dump, names, reading, out).unwrap();
+        out.len()
+    }),
+    ("peer", |dump, names, reading, out| {
+        lend(out);
+        let reading = peer::Reading::new(reading.rate, reading.unit, reading.serial);
+        peer::listing_with_names(dump, names, &reading, out).unwrap()
+    }),
+];
+
+/// Beside those with a name file: the same dump without one.
+pub const WITHOUT_FILE: (&str, Lister) = ("lepsaino-fileless", LIBRARY);
 
 /// The library alone, by the room that it has.
 pub const ROOMS: [(&str, Lister); 2] = [

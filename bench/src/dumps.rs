@@ -11,8 +11,8 @@ pub const BIG: u32 = 1;
 pub const LARGEST: usize = 65_536;
 const BASE: u32 = 0x2000_0000;
 const FIRST_THREAD: u32 = BASE + 0x1000;
-const NAMED_THREADS: usize = 400;
-const KINDS: [&str; 8] = [
+pub const NAMED_THREADS: usize = 400;
+pub const KINDS: [&str; 8] = [
     "pump",
     "motor control",
     "display",
@@ -97,7 +97,7 @@ fn apart(distance: u32, count: usize) -> Vec<u32> {
 }
 
 /// All at one place of the library's index, as someone would choose them who knows how it places them.
-fn crowded(count: usize) -> Vec<u32> {
+pub fn crowded(count: usize) -> Vec<u32> {
     let place = |pointer: u32| u64::from(pointer) * 2_654_435_769 / (1 << 21) % 2_048;
     let aligned = (FIRST_THREAD..).step_by(4);
     let together = aligned.filter(|pointer| place(*pointer) == place(FIRST_THREAD));
@@ -195,6 +195,19 @@ pub fn leaping(events: usize, named: &[u32], running: &[u32]) -> Dump {
     let mut stream = Stream::new();
     for turn in 0..events {
         dump.record(stream.thread(running[7 * turn % running.len()]));
+    }
+    dump
+}
+
+/// So many events and no entries; both ids and threads leap about among the numbers.
+pub fn unnamed(events: usize, numbers: &[u32]) -> Dump {
+    let mut dump = Dump::formatted(48 + 32 * events, LITTLE, 4, 0, 4_711);
+    let mut stream = Stream::new();
+    for turn in 0..events {
+        let number = numbers[7 * turn % numbers.len()];
+        let id = number;
+        let slot = stream.thread(number);
+        dump.record(Slot { id, ..slot });
     }
     dump
 }

@@ -1,6 +1,6 @@
 //! Writes dumps and the library's answers into a folder, once every competitor in Rust has given the same.
 
-use crate::competitors::{Lister, CHECKERS, FINDERS, MENDERS, PRINTERS, RECORDERS};
+use crate::competitors::{Lister, CHECKERS, FINDERS, MENDERS, NAMED_LISTERS, PRINTERS, RECORDERS};
 use crate::dumps::{full, with_gone, with_names, Dump, LARGEST, LITTLE};
 use crate::feeders::FEEDERS;
 use crate::jobs::{Job, Work, JOBS, RECORDED};
@@ -33,6 +33,7 @@ fn answer(job: &Job) -> Vec<u8> {
     let dump = (job.dump)();
     match job.work {
         Work::List(listers) => agreed_listing(&dump, listers),
+        Work::ListWithNames(names) => agreed_listing_with_names(&dump, &names()),
         Work::Check(expected) => checked(&dump, expected),
         Work::Feed(length, expected) => fed(&dump, length, expected),
         Work::Find(pointer, expected) => found(&dump, pointer, expected),
@@ -45,6 +46,14 @@ pub fn agreed_listing(dump: &Dump, listers: &[(&'static str, Lister)]) -> Vec<u8
     agreed(listers.iter().map(|(name, list)| {
         let mut out = Vec::new();
         let length = list(&dump.bytes, dump.reading, &mut out);
+        (*name, out[..length].to_vec())
+    }))
+}
+
+pub fn agreed_listing_with_names(dump: &Dump, names: &[u8]) -> Vec<u8> {
+    agreed(NAMED_LISTERS.iter().map(|(name, list)| {
+        let mut out = Vec::new();
+        let length = list(&dump.bytes, names, dump.reading, &mut out);
         (*name, out[..length].to_vec())
     }))
 }

@@ -6,6 +6,7 @@ use crate::contest::{contest, Competitor, Measure};
 use crate::dumps::{growing, leaping, Dump, SHAPES};
 use crate::files::{agreed_listing, agreed_numbers};
 use crate::jobs::{lister, print};
+use crate::named_growth;
 use crate::numbers::{of_length, LONGEST};
 
 const EVENTS: [usize; 7] = [32, 64, 128, 256, 512, 1_024, 2_046];
@@ -30,6 +31,7 @@ pub fn run(rounds: usize) {
             list_shape(&job, &pointers(entries), rounds);
         }
     }
+    named_growth::run(rounds);
     for digits in 1..=LONGEST {
         let numbers = of_length(digits);
         agreed_numbers(&numbers);
@@ -52,7 +54,7 @@ fn list_shape(job: &str, pointers: &[u32], rounds: usize) {
 }
 
 /// The time for each event; short listings are timed several in a row.
-fn measure(job: &str, dump: &Dump) -> Measure {
+pub fn measure(job: &str, dump: &Dump) -> Measure {
     Measure::new(job, 1 + 1_000 / dump.events, dump.events)
 }
 

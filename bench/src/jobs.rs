@@ -1,12 +1,13 @@
 //! The jobs, and how they are timed.
 
-use crate::competitors::{Checker, Finder, Lister, Mender, Printer, Reader, Recorder};
-use crate::competitors::{CHECKERS, COPIER, FINDERS, LISTERS, MENDERS, PRINTERS, READERS};
-use crate::competitors::{RECORDERS, ROOMS};
+use crate::competitors::{Checker, Finder, Lister, Mender, NamedLister, Printer, Reader, Recorder};
+use crate::competitors::{CHECKERS, COPIER, FINDERS, LISTERS, MENDERS, NAMED_LISTERS, PRINTERS};
+use crate::competitors::{READERS, RECORDERS, ROOMS, WITHOUT_FILE};
 use crate::contest::{contest, opaque, Competitor, Measure};
 use crate::dumps::{empty, full, half, thread, with_entries, with_gone, with_names, without_id};
 use crate::dumps::{Dump, BIG, LARGEST, LITTLE};
 use crate::feeders::{Feeder, FEEDERS};
+use crate::name_files::beside_names;
 use crate::numbers::fixed;
 use crate::plain::Refusal;
 use lepsaino::{Mended, Name, NameKind};
@@ -14,10 +15,11 @@ use lepsaino::{Mended, Name, NameKind};
 /// How many events are recorded in a call where recording is timed.
 pub const RECORDED: u32 = 1_000_000;
 
-/// What is done to a dump; for a listing, by whom; for a check, a search and a mending, what must come of it.
+/// What is done to a dump; for a listing, by whom, or with what name file; for a check, a search and a mending, what must come of it.
 /// Pieces have their length first.
 pub enum Work {
     List(&'static [(&'static str, Lister)]),
+    ListWithNames(fn() -> Vec<u8>),
     Check(Result<usize, Refusal>),
     Feed(usize, Result<usize, Refusal>),
     Find(u32, Name<'static>),
@@ -32,12 +34,17 @@ pub struct Job {
 }
 
 /// All but the numbers, which have no dump.
-pub const JOBS: [Job; 19] = [
+pub const JOBS: [Job; 20] = [
     job("listing-full", || full(LITTLE), Work::List(&LISTERS)),
     job("listing-big", || full(BIG), Work::List(&LISTERS)),
     job("listing-exact", || full(LITTLE), Work::List(&ROOMS)),
     job("listing-names", with_names, Work::List(&LISTERS)),
     job("listing-gone", with_gone, Work::List(&LISTERS)),
+    job(
+        "listing-filed",
+        with_names,
+        Work::ListWithNames(beside_names),
+    ),
     job("check", || full(LITTLE), Work::Check(Ok(2_046))),
     job("check-big", || full(BIG), Work::Check(Ok(2_046))),
     job("check-entries", with_entries, Work::Check(Ok(1_109))),
@@ -118,7 +125,7 @@ fn time(job: &Job, rounds: usize) {
         _ => {}
     }
     let (calls, parts, rounds) = match job.work {
-        Work::List(_) => (1, 1, rounds),
+        Work::List(_) | Work::ListWithNames(_) => (1, 1, rounds),
         // Fed byte by byte a dump takes a millisecond, and longer turns are interrupted.
         Work::Feed(1, _) => (2, 1, rounds),
         Work::Check(_) | Work::Feed(..) | Work::Find(..) | Work::Mend(_) => (20, 1, rounds),
@@ -132,6 +139,7 @@ fn time(job: &Job, rounds: usize) {
 pub fn competitors<'a>(job: &Job, dump: &'a Dump, recorded: u32) -> Vec<Competitor<'a>> {
     match job.work {
         Work::List(listers) => listers.iter().map(|entry| lister(*entry, dump)).collect(),
+        Work::ListWithNames(names) => with_and_without(&NAMED_LISTERS, dump, &names()),
         Work::Check(_) => CHECKERS.map(|entry| checker(entry, dump)).into(),
         Work::Feed(length, _) => FEEDERS.map(|entry| feeder(entry, dump, length)).into(),
         Work::Find(pointer, _) => FINDERS.map(|entry| finder(entry, dump, pointer)).into(),
@@ -145,6 +153,28 @@ pub fn competitors<'a>(job: &Job, dump: &'a Dump, recorded: u32) -> Vec<Competit
 pub fn lister<'a>((name, list): (&'static str, Lister), dump: &'a Dump) -> Competitor<'a> {
     let mut out = Vec::new();
     let call = move || list(opaque(&dump.bytes), dump.reading, &mut out) as u64;
+    Competitor::new(name, call)
+}
+
+/// The listing with a name file, by each, and the library's without one.
+pub fn with_and_without<'a>(
+    listers: &[(&'static str, NamedLister)],
+    dump: &'a Dump,
+    names: &[u8],
+) -> Vec<Competitor<'a>> {
+    let named = listers
+        .iter()
+        .map(|entry| named_lister(*entry, dump, names.to_vec()));
+    named.chain([lister(WITHOUT_FILE, dump)]).collect()
+}
+
+fn named_lister<'a>(
+    (name, list): (&'static str, NamedLister),
+    dump: &'a Dump,
+    names: Vec<u8>,
+) -> Competitor<'a> {
+    let mut out = Vec::new();
+    let call = move || list(opaque(&dump.bytes), opaque(&names), dump.reading, &mut out) as u64;
     Competitor::new(name, call)
 }
 

@@ -10,6 +10,8 @@ mod feeders;
 mod files;
 mod growth;
 mod jobs;
+mod name_files;
+mod named_growth;
 mod numbers;
 mod plain;
 mod repeat;

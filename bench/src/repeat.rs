@@ -34,7 +34,7 @@ fn repeat_dump(job: &str, competitor: &str, times: u32) -> Option<usize> {
     let dump = (job.dump)();
     repeat(competitors(&job, &dump, RECORDED), competitor, times)?;
     Some(match job.work {
-        Work::List(_) => dump.events,
+        Work::List(_) | Work::ListWithNames(_) => dump.events,
         Work::Check(_) | Work::Feed(..) | Work::Find(..) | Work::Mend(_) => 1,
         Work::Record => RECORDED as usize,
     })

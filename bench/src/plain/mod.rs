@@ -7,6 +7,7 @@ pub mod events;
 pub mod find;
 pub mod layout;
 pub mod mend;
+pub mod name_file;
 pub mod names;
 pub mod pieces;
 pub mod record;
