@@ -1,7 +1,7 @@
 -- What the contracts allow is what the definitions say, call by call; so the third demand holds of runs.
 use Prim.Native.Nat.{ℕ, ◌-◌, ◌≤◌, min}
 use mathlib.Core.List.{List, ◌++◌}
-use mathlib.Core.Option.{Option, none as noFile, some}
+use mathlib.Core.Option.{Option, none as no_file, some}
 use mathlib.Core.Path.{◌≡◌, refl, sym, ap, ap₂, ◌∙◌, subst, subst₂}
 use native.Mathlib.Omega.{arith}
 use lib.ListN.{drop, length, length-drop}
@@ -43,7 +43,7 @@ ran (next {cs = cs} one more) =
       (here.2, subst (NoneFormats recording cs) here.1 rest.2),
     )
 
-no-file : Accepted (file_rows noFile)
+no-file : Accepted (file_rows no_file)
 unfolding first_broken
 no-file = refl
 
@@ -76,7 +76,7 @@ runs κs a p k n cs ws t done word run typed many = (shows, lists, lists-with-na
         (demands.third k n a.1.0 a.0.now cs word (sym made.0 ∙ done) typed (subst (NoneFormats recording cs) made.1 (ran run).2) (ap length (sym writes) ∙ many))
 
     lists : Lists (last_of n ws) t
-    lists κs a p here accepted fits = shown-lists _ k n ws t many shows noFile _ _ _ _ _ here accepted no-file fits (calls.listing κs a p)
+    lists κs a p here accepted fits = shown-lists _ k n ws t many shows no_file _ _ _ _ _ here accepted no-file fits (calls.listing κs a p)
 
     lists-with-names : ListsWithNames (last_of n ws) t
     lists-with-names κs a p here accepted passed fits = shown-lists _ k n ws t many shows (some a.1.0.now) _ _ _ _ _ here accepted passed fits (calls.listing_with_names κs a p)

@@ -1,6 +1,6 @@
 -- The third demand of the functions themselves: whatever answers their contracts allow, from formatting to the listing.
 use Rattle.std.specs.Prelude.{ℕ, ◌^◌, ◌≤◌, ◌<◌, List, [], ◌∷◌, ◌++◌, ◌≡◌, drop, length}
-use Rattle.std.proofs.Math.Option.{none as noFile, some}
+use Rattle.std.proofs.Math.Option.{none as no_file, some}
 use Rattle.demands.specs.Demands.{Shows}
 use Rattle.demands.specs.History.{Call, Read, Typed, Write, check, event, find, format, given, if_accepted, last_of, line, list, read, register, remove, write}
 use Rattle.demands.specs.Shown.{ReadingAccepted, lines_of}
@@ -90,7 +90,7 @@ abbrev pub Lists : List Write → List ℕ → Type 0
 Lists ws t =
     (κs : Lives listing.listing.ended) (a : Arguments listing.listing.ended κs) (p : Answer listing.listing.ended listing.listing.Reads.Learnt κs a)
     → a.0.now ≡ t → ReadingAccepted a.1.0 (length ws)
-    → let text = lines_of noFile t a.1.0 ws in
+    → let text = lines_of no_file t a.1.0 ws in
     let old = a.1.1.0.now in
     length text ≤ length old → (p.result ≡ Written (length text)) × (p.left.1.1.0 ≡ text ++ drop (length text) old)
 

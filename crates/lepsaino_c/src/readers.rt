@@ -3,7 +3,7 @@ ghost use Rattle.std.proofs.Math.Option.{none};
 ghost use Rattle.std.specs.Prelude.{◌≡◌, length};
 ghost use Rattle.events.specs.Events.{event_of};
 ghost use Rattle.events.specs.Listing.{line_at, line_rows, listing_rows, listing_text};
-ghost use Rattle.text.specs.Numbers.{number as numberText};
+ghost use Rattle.text.specs.Numbers.{number as number_text};
 ghost use Rattle.text.specs.Output.{Put, printed};
 ghost use Rattle.trace.specs.Check.{check_of};
 ghost use Rattle.trace.specs.Layout.{header_of};
@@ -63,7 +63,7 @@ pub extern "C" fn lepsaino_listing(dump: &[u8], reading: Reading, out: &mut [u8]
 // The text of a number.
 #[unsafe(no_mangle)]
 pub extern "C" fn lepsaino_number(out: &mut [u8], number: u64) -> usize
-    ensures { Put (printed (numberText number) out.old) out.old out.new result }
+    ensures { Put (printed (number_text number) out.old) out.old out.new result }
 {
     numbers::put_number(out, number)
 }

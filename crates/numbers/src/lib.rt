@@ -4,7 +4,7 @@ ghost use Rattle.std.specs.Prelude.{◌≡◌, ◌+◌, ◌≤◌, ◌<◌, ltb,
 ghost use Rattle.text.specs.Numbers.{digits, is_bare, number, quoted};
 ghost use Rattle.text.specs.Output.{Fitted, Put, Wrote, printed};
 ghost use Rattle.numbers.specs.Counts.{IsCount};
-ghost use Rattle.numbers.specs.Pairs.{digits_by, eight_by, four_by, number_by, pair_by, pairs as pairsTable};
+ghost use Rattle.numbers.specs.Pairs.{digits_by, eight_by, four_by, number_by, pair_by, pairs as pairs_table};
 
 // The two digits of each number below a hundred.
 const PAIRS: [u8; 200] =
@@ -12,7 +12,7 @@ const PAIRS: [u8; 200] =
 
 // The table of pairs. Whoever names the constant builds all of it on the stack, so it is named here alone.
 pub fn pairs() -> [u8; 200]
-    ensures { result ≡ pairsTable }
+    ensures { result ≡ pairs_table }
 {
     PAIRS
 }
