@@ -1,9 +1,11 @@
 // Numbers among a program's arguments.
+#![tactic(auto)]
+
 ghost use Rattle.std.specs.Prelude.{◌≡◌};
 ghost use Rattle.arguments.specs.Arguments.{argument_of, is_digit};
 
 // A decimal number of its range, or something else.
-#[derive(Drop)]
+#[derive(Clone, Copy)]
 pub enum Argument {
     Wrong,
     Number(u64),

@@ -1,4 +1,6 @@
 // Answers six files of cases: dumps put to the check, dumps in pieces, questions to the reader, calls that write, dumps that are mended, and name files.
+#![tactic(auto)]
+
 fn main() {
     replies::answer_file(b"check");
     replies::answer_file(b"pieces");

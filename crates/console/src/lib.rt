@@ -1,4 +1,6 @@
 // What the programs share: a refusal, a number or a part of a buffer on standard output, bytes from a file and numbers in them, and how many bytes changed.
+#![tactic(auto)]
+
 ghost use Rattle.std.specs.Prelude.{◌≡◌, cond, ◌+◌, ◌*◌};
 ghost use Rattle.words.specs.Words.{word_at};
 ghost use Rattle.words.specs.declared.Order.TheVariants.{Little};

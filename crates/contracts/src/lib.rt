@@ -1,1 +1,2 @@
 // Theorems over the contracts of the public functions. No code.
+#![tactic(auto)]

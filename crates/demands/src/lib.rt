@@ -1,1 +1,2 @@
 // Theorems over the definitions that the promises cite. No code.
+#![tactic(auto)]

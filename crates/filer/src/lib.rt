@@ -1,4 +1,6 @@
 // Writes name files (document 02, A7), record by record.
+#![tactic(auto)]
+
 ghost use Rattle.std.specs.Prelude.{◌≡◌, ◌+◌, ◌≤◌, ◌<◌, ◌^◌, length};
 ghost use Rattle.std.proofs.lemmas.List.Edits.{sets};
 ghost use Rattle.naming.specs.Writing.{front_fields, record_bytes, record_rows};

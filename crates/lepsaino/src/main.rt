@@ -1,6 +1,8 @@
 // lepsaino FILE RATE UNIT SERIAL [NAMES]: prints the listing of a dump, with names from a name file where one is given, or the refusal's number, a space and its place
 // as one line. FILE or NAMES may be a dash.
 // A usage or file error is one line on standard error, and nothing on standard output. With `mend` first it mends a dump instead.
+#![tactic(auto)]
+
 mod mends;
 mod named;
 mod shared;

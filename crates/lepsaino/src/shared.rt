@@ -6,7 +6,7 @@ use libc::{STDERR_FILENO, STDIN_FILENO, STDOUT_FILENO};
 use rows::Refusal;
 
 // What a file's bytes came to.
-#[derive(Drop)]
+#[derive(Clone, Copy)]
 pub(crate) enum Took {
     Bytes(usize),
     Failed,

@@ -1,4 +1,6 @@
 // The calls for C: each hands on to the library's call and gives its answer as a struct of numbers. include/lepsaino.h declares them.
+#![tactic(auto)]
+
 mod answers;
 mod feeders;
 mod named_readers;

@@ -15,7 +15,7 @@ use writing::{Format, Object};
 
 // A format with its byte order as a number: 0 is little-endian, any other big.
 #[repr(C)]
-#[derive(Drop)]
+#[derive(Clone, Copy)]
 pub struct FormatNumbers {
     pub big: u32,
     pub base: u32,

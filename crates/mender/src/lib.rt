@@ -1,4 +1,6 @@
 // Mends a dump (document 02, A2): writes a repaired copy into a second buffer, step by step in the order of the counts, and says what it did.
+#![tactic(auto)]
+
 mod packing;
 mod steps;
 

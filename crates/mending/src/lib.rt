@@ -1,9 +1,11 @@
 // Mending a dump as document 02 describes it: types here, and in specs/ what the promise of the mender cites. No code.
+#![tactic(auto)]
+
 use rows::Refusal;
 
 // What was mended, in six counts: slots zeroed as missing, a bad current (0 or 1), entries in use with a bad type, used slots with id 0, whether slots were packed
 // (0 or 1), and used slots whose index packing changed.
-#[derive(Drop)]
+#[derive(Clone, Copy)]
 pub struct Repairs {
     pub missing: usize,
     pub current: usize,
@@ -14,7 +16,7 @@ pub struct Repairs {
 }
 
 // What mending gives: a refusal, or the copy's length and what was mended.
-#[derive(Drop)]
+#[derive(Clone, Copy)]
 pub enum Mended {
     Refused(Refusal),
     Copied { length: usize, repairs: Repairs },

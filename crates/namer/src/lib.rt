@@ -1,4 +1,6 @@
 // Reads name files (document 02, A7): checks one, and finds the name of an event or of a thread in it.
+#![tactic(auto)]
+
 ghost use Rattle.std.specs.Prelude.{[], ◌∷◌, ◌≡◌, ◌<◌, ◌^◌, length};
 ghost use Rattle.rows.specs.Rows.{first_broken};
 ghost use Rattle.trace.specs.Table.{row2};

@@ -1,4 +1,6 @@
 // Prints names: bytes escaped as document 01 says, in quotes; null where there is no name.
+#![tactic(auto)]
+
 ghost use Rattle.std.specs.Prelude.{true, ◌≡◌, ◌≤◌, ◌<◌, ◌^◌, leb, length};
 ghost use Rattle.std.proofs.Math.Option.{some};
 ghost use Rattle.text.specs.Names.{escape, escaped, if_named, hex_digit, hexed, name, slashed};

@@ -1,14 +1,15 @@
 // A name file as document 02 describes it (A7): types and sizes here, and in specs/ what every promise cites. No code.
+#![tactic(auto)]
 
 // What a record names.
-#[derive(Drop)]
+#[derive(Clone, Copy)]
 pub enum Subject {
     Event,
     Thread,
 }
 
 // What a search of a name file looks for: a record that is damaged, or one that names an event by its id or a thread by its pointer.
-#[derive(Drop)]
+#[derive(Clone, Copy)]
 pub enum Sought {
     Damaged,
     Naming { subject: Subject, number: u32 },

@@ -1,5 +1,7 @@
 // Prints numbers: digits, in quotes from two to the fifty-third on.
 // Two digits at a time are looked up in a table, which is made once in a call from outside and lent on from there.
+#![tactic(auto)]
+
 ghost use Rattle.std.specs.Prelude.{◌≡◌, ◌+◌, ◌≤◌, ◌<◌, ltb, length};
 ghost use Rattle.text.specs.Numbers.{digits, is_bare, number, quoted};
 ghost use Rattle.text.specs.Output.{Fitted, Put, Wrote, printed};

@@ -1,4 +1,6 @@
 // Copies bytes into lent output, and adds up lengths.
+#![tactic(auto)]
+
 ghost use Rattle.std.specs.Prelude.{cond, ◌≡◌, ◌+◌, leb};
 ghost use Rattle.text.specs.Output.{Put, capped, printed};
 

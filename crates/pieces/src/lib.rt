@@ -1,4 +1,6 @@
 // Document 02, A4: a dump checked in pieces, cut anywhere. The state is handed in and handed back each time, and the answer comes at the finish.
+#![tactic(auto)]
+
 mod parts;
 
 ghost use Rattle.std.specs.Prelude.{◌≡◌, ◌+◌, ◌≤◌, length};
@@ -12,7 +14,7 @@ use trace::{Checked, HEADER_SIZE, MOST_BYTES};
 
 // The header's bytes, what has come behind the header, and how many bytes have come in all, 65,537 where there were more.
 #[repr(C)]
-#[derive(Drop)]
+#[derive(Clone, Copy)]
 pub struct Pieces {
     pub header: [u8; HEADER_SIZE],
     pub body: Body,

@@ -2,6 +2,8 @@
 // A case in the file is a title's length (a byte, above 0), the title, the buffer, the name file (9 bytes each, see `print_case`, and the bytes at its front), and the calls.
 // A call is a letter (see `print_reply` and `changed`), its arguments' length (16 bits) and its arguments; a dot ends the case.
 // Numbers in the file are little-endian. Past its end they read as 0, which is no title's length and no call's letter.
+#![tactic(auto)]
+
 mod arguments;
 mod buffers;
 mod fed;

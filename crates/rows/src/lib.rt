@@ -1,14 +1,16 @@
 // A refusal by number and place, rows checked in order, and tests and small sums with both sides worked out, so that a row is code with no branch.
+#![tactic(auto)]
+
 ghost use Rattle.std.specs.Prelude.{◌≡◌, ◌&&◌, ◌||◌, ◌-◌, min};
 ghost use Rattle.rows.specs.Rows.{row_at, after_row};
 
-#[derive(Drop)]
+#[derive(Clone, Copy)]
 pub struct Refusal {
     pub number: u32,
     pub place: usize,
 }
 
-#[derive(Drop)]
+#[derive(Clone, Copy)]
 pub enum Verdict {
     Passed,
     Refused(Refusal),

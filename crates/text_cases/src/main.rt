@@ -3,6 +3,8 @@
 // A line's case is an l, the line's numbers in their order, whether it has the event's name, and that name's length and bytes, whether it has a thread's name and
 // whether that is gone, and its length and bytes; it gives the line, and then six numbers that say what it does with too little room, with just enough and with plenty.
 // Numbers in the file are little-endian.
+#![tactic(auto)]
+
 ghost use Rattle.std.specs.Prelude.{◌≤◌, ◌<◌, ◌^◌};
 
 use console::{count_changed, number_at, print_front, print_space, word_at};
