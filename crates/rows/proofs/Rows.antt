@@ -80,10 +80,13 @@ pub data Among (r : Row) : List Row → Type 0 where
 pub ruleset among = (here, further)
 
 -- of rows that passed none is broken
-pub unbroken : {rs : List Row} → first_broken rs ≡ Passed → (r : Row) → Among r rs → r.broken ≡ false
+kept-among : (r : Row) {rs : List Row} → Among r rs → first_broken rs ≡ Passed → r.broken ≡ false
 unfolding first_broken
-unbroken passed r (here {rs}) = (past r.broken (refusal r) (first_broken rs) passed).0
-unbroken passed r (further {other} {rs} among) = unbroken (past other.broken (refusal other) (first_broken rs) passed).1 r among
+kept-among r (here {rs}) passed = (past r.broken (refusal r) (first_broken rs) passed).0
+kept-among r (further {other} {rs} behind) passed = kept-among r behind (past other.broken (refusal other) (first_broken rs) passed).1
+
+pub unbroken : {rs : List Row} → first_broken rs ≡ Passed → (r : Row) → Among r rs → r.broken ≡ false
+unbroken passed r stands = kept-among r stands passed
 
 -- and rows of which none is broken pass: one row more
 pub kept-too : (r : Row) (rs : List Row) → r.broken ≡ false → first_broken rs ≡ Passed → first_broken (r ∷ rs) ≡ Passed

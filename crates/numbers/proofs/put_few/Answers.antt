@@ -1,0 +1,33 @@
+-- `numbers::put_few` meets its contract: two digits at most, or such and a pair into the rest.
+use Prim.Native.Nat.{◌+◌, ◌/◌}
+use mathlib.Core.Path.{◌≡◌}
+use native.Mathlib.Omega.{arith}
+use lib.ListN.{length}
+use Rattle.text.proofs.Output.{on-from}
+use Rattle.numbers.specs.Pairs.{digits_by}
+use Rattle.numbers.proofs.Steps.{by-hundred, count-hundred}
+use Rattle.numbers.proofs.put_few.Goals as goal
+use Rattle.numbers.proofs.put_few.Goals.{Else-x-lt100}
+
+counted : (c : Else-x-lt100) → let a = c.args in length (digits_by a.pairs.now a.x) ≡ length (digits_by a.pairs.now (a.x / 100)) + 2
+counted c = let a = c.args in count-hundred a.pairs.now a.x c.if-x-lt100.false
+
+pub put_short-at-requires : goal.put_short-at-requires
+put_short-at-requires c = (omega arith, omega (arith, counted (goal.at.put_short-at-requires c).Else-x-lt100))
+
+pub slice_bounds-put_pair-count : goal.slice_bounds-put_pair-count
+slice_bounds-put_pair-count c = omega (arith, counted (goal.at.slice_bounds-put_pair-count c).Else-x-lt100)
+
+pub slice_bounds-put_pair-start : goal.slice_bounds-put_pair-start
+slice_bounds-put_pair-start c = omega (arith, counted (goal.at.slice_bounds-put_pair-start c).Else-x-lt100)
+
+pub put_pair-requires : goal.put_pair-requires
+put_pair-requires c = omega (arith, counted (goal.at.put_pair-requires c).Else-x-lt100)
+
+pub overflow_add-result : goal.overflow_add-result
+overflow_add-result c = omega (arith, counted (goal.at.overflow_add-result c).Else-x-lt100)
+
+pub returns : goal.returns
+returns c =
+    let a = c.args in
+    rw (by-hundred a.pairs.now a.x c.if-x-lt100.false) (on-from _ _ c.put_short-at.ensures c.put_pair.ensures)
