@@ -1,0 +1,20 @@
+-- `dump::registry::lowest_entry` meets its contract. The loop's invariant: no entry below `i` is wanted.
+use Prim.Native.Nat.{ℕ, ◌+◌, ◌*◌, ◌-◌, ◌<◌, ◌≤◌, ◌^◌}
+use mathlib.Core.Bool.{false}
+use mathlib.Core.Path.{◌≡◌, ◌∙◌, sym}
+use native.Mathlib.Decide.{dec_lt}
+use native.Mathlib.Omega.{arith}
+use borrow.Author.Count.{below_none, below_more}
+use borrow.Author.Rules.{rules}
+use Rattle.header.proofs.Steps.{entries-are, entry-below}
+use Rattle.rows.proofs.Lowest.{lowest-none, lowest-at}
+use Rattle.trace.specs.Layout.{entry_count}
+use Rattle.trace.specs.Registry.{is_wanted}
+use Rattle.dump.proofs.registry.lowest_entry.Given as goal
+
+abbrev pub invariant-loop-i : goal.invariant-loop-i
+invariant-loop-i l =
+    (l.i ≤ entry_count l.header) × ((k : ℕ) → k < l.i → is_wanted l.wanted l.dump l.header k ≡ false)
+
+abbrev pub decreases-loop-i : goal.decreases-loop-i
+decreases-loop-i l = entry_count l.header - l.i

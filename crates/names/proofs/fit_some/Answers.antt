@@ -1,0 +1,30 @@
+-- `names::fit_some` meets its contract: the whole text where there is room, otherwise only its length.
+use mathlib.Core.Option.{some}
+use mathlib.Core.Path.{sym, ◌∙◌}
+use native.Mathlib.Omega.{arith}
+use lib.ListN.{length}
+use borrow.Author.Rules.{rules}
+use borrow.Author.Tests.{leb-true, leb-false}
+use Rattle.text.proofs.Output.{none-fitted, put-fitted}
+use Rattle.text.specs.Names.{if_named, name}
+use Rattle.names.proofs.fit_some.Goals as goal
+use Rattle.names.proofs.fit_some.Goals.{Start}
+
+pub put_quoted-requires : goal.put_quoted-requires
+put_quoted-requires c =
+    let s = c in
+    leb-true (length (name (some s.args.bytes.now))) (length s.args.out.now) (sym c.has_room.ensures ∙ c.if-has_room.true)
+
+pub returns-then-has_room : goal.returns-then-has_room
+returns-then-has_room c =
+    let s = c in
+    let text = name (some s.args.bytes.now) in
+    let out = s.args.out.now in
+    put-fitted text (omega arith) (leb-true (length text) (length out) (sym c.has_room.ensures ∙ c.if-has_room.true)) c.put_quoted.ensures
+
+pub returns : goal.returns
+unfolding if_named
+returns c =
+    let s = c in
+    let text = name (some s.args.bytes.now) in
+    none-fitted text (leb-false (length text) (length s.args.out.now) (sym c.has_room.ensures ∙ c.if-has_room.false)) c.name_length.ensures
