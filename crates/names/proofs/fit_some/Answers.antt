@@ -3,7 +3,6 @@ use mathlib.Core.Option.{some}
 use mathlib.Core.Path.{sym, ◌∙◌}
 use native.Mathlib.Omega.{arith}
 use lib.ListN.{length}
-use borrow.Author.Rules.{rules}
 use borrow.Author.Tests.{leb-true, leb-false}
 use Rattle.text.proofs.Output.{none-fitted, put-fitted}
 use Rattle.text.specs.Names.{if_named, name}

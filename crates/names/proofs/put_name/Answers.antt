@@ -1,6 +1,5 @@
 -- `names::put_name` meets its contract: its length tells whether the name was written.
 use native.Mathlib.Omega.{arith}
-use borrow.Author.Rules.{rules}
 use Rattle.text.proofs.Output.{fitted-put}
 use Rattle.names.proofs.put_name.Goals as goal
 

@@ -42,8 +42,7 @@ room : (c : Else-i-entries)
     → let g = c.geometry_of-geometry.result in
     48 + c.passed_over-i.result * g.entry_size + g.entry_size < 2 ^ 33
 room c =
-    let g = (goal.at.Else-i-entries c).After-geometry_of-geometry in
-    entry-below g.args.header g.geometry_of-geometry.result g.geometry_of-geometry.ensures c.passed_over-i.result (below c)
+    entry-below c.args.header c.geometry_of-geometry.result c.geometry_of-geometry.ensures c.passed_over-i.result (below c)
 
 pub overflow_mul-i : goal.overflow_mul-i
 overflow_mul-i c = omega (arith, room c)
@@ -62,21 +61,18 @@ loop-i-smaller c = omega (arith, below (goal.at.loop-i-smaller c).Else-i-entries
 
 pub loop-i-preserved : goal.loop-i-preserved
 loop-i-preserved c =
-    let stop = (goal.at.loop-i-preserved c).After-passed_over-i in
     let miss = sym c.is_wanted.ensures ∙ c.if-is_wanted.false in
-    (omega (arith, below (goal.at.loop-i-preserved c).Else-i-entries, all stop.before.before), below_more _ _ (missed stop) (rw stop.geometry_of-geometry.ensures at miss))
+    (omega (arith, below (goal.at.loop-i-preserved c).Else-i-entries, all (goal.at.loop-i-preserved c).After-geometry_of-geometry), below_more _ _ (missed (goal.at.loop-i-preserved c).After-passed_over-i) (rw c.geometry_of-geometry.ensures at miss))
 
 pub returns-then-i-entries : goal.returns-then-i-entries
 returns-then-i-entries c =
-    let stop = (goal.at.returns-then-i-entries c).After-passed_over-i in
-    let a = stop.args in
-    all stop.before.before
-    ∙ lowest-none (is_wanted a.wanted a.dump.now a.header) (entry_count a.header) (λ k l. missed stop k (omega (arith, all stop.before.before)))
+    let a = c.args in
+    all (goal.at.returns-then-i-entries c).After-geometry_of-geometry
+    ∙ lowest-none (is_wanted a.wanted a.dump.now a.header) (entry_count a.header) (λ k l. missed (goal.at.returns-then-i-entries c).After-passed_over-i k (omega (arith, all (goal.at.returns-then-i-entries c).After-geometry_of-geometry)))
 
 pub returns-then-is_wanted : goal.returns-then-is_wanted
 returns-then-is_wanted c =
-    let stop = (goal.at.returns-then-is_wanted c).After-passed_over-i in
-    let a = stop.args in
+    let a = c.args in
     let hit = sym c.is_wanted.ensures ∙ c.if-is_wanted.true in
-    lowest-at (is_wanted a.wanted a.dump.now a.header) (entry_count a.header) stop.passed_over-i.result
-    (omega (arith, below (goal.at.returns-then-is_wanted c).Else-i-entries, all stop.before.before)) (missed stop) (rw stop.geometry_of-geometry.ensures at hit)
+    lowest-at (is_wanted a.wanted a.dump.now a.header) (entry_count a.header) c.passed_over-i.result
+    (omega (arith, below (goal.at.returns-then-is_wanted c).Else-i-entries, all (goal.at.returns-then-is_wanted c).After-geometry_of-geometry)) (missed (goal.at.returns-then-is_wanted c).After-passed_over-i) (rw c.geometry_of-geometry.ensures at hit)
