@@ -1,11 +1,10 @@
 -- `dump::registry::lowest_entry` meets its contract. The loop's invariant: no entry below `i` is wanted.
-use Prim.Native.Nat.{ℕ, ◌+◌, ◌*◌, ◌-◌, ◌<◌, ◌≤◌, ◌^◌}
+use Prim.Native.Nat.{ℕ, ◌+◌, ◌*◌, ◌<◌, ◌^◌}
 use mathlib.Core.Bool.{false}
 use mathlib.Core.Path.{◌≡◌, ◌∙◌, sym}
 use native.Mathlib.Decide.{dec_lt}
 use native.Mathlib.Omega.{arith}
 use borrow.Author.Count.{below_none, below_more}
-use borrow.Author.Rules.{rules}
 use Rattle.header.proofs.Steps.{entries-are, entry-below}
 use Rattle.rows.proofs.Lowest.{lowest-none, lowest-at}
 use Rattle.trace.specs.Layout.{entry_count}
