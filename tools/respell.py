@@ -1,10 +1,11 @@
 #!/usr/bin/env python3
-"""Turns this repository's own definitions from camel case to snake case, once, after a port to a Rattle that spells its own so.
+"""Turns the names of this repository's own definitions, lemmas, fields and constructors to snake case, after a port to a Rattle that spells its own so.
 
 usage: python3 tools/respell.py            at the top: rewrites crates/, docs/, README.md, CONTRIBUTING.md and checks/ in place
        python3 tools/respell.py --dry      lists the names, and those that fall together
 
-A name is respelled where a file of specs/ or a lemma file of proofs/ defines it. Types and modules keep their capitals, and the dashes of lemmas and fields stay.
+A name is respelled where a file of specs/ or a lemma file of proofs/ defines it: first camel case, then dashes. Types and modules keep their capitals. A name with dashes keeps them
+where without them it would fall together with another, or is one of the library's.
 """
 import collections
 import glob
@@ -37,7 +38,7 @@ def snake(name):
 def respellings():
     defined = set()
     for path in proof_texts():
-        if os.path.basename(path) != "Proof.antt":
+        if not of_function(path):
             defined.update(DEFINED.findall(read(path)))
     turned = {name: snake(name) for name in defined if not name[0].isupper() and snake(name) != name}
     together = collections.defaultdict(list)
@@ -47,6 +48,32 @@ def respellings():
         if len(names) > 1 or new in defined:
             print("falls together:", new, names, "also defined so" if new in defined else "")
     return turned
+
+
+def of_function(path):
+    return os.path.basename(path) in ("Proof.antt", "Invariants.antt", "Answers.antt")
+
+
+def imported():
+    """The names that files here take from the library."""
+    own = r"Rattle\.(?:" + "|".join(os.listdir("crates")) + r")\."
+    names = set()
+    for path in proof_texts() + glob.glob("crates/*/src/**/*.rt", recursive=True):
+        for source, items in re.findall(r"^\s*(?:pub )?(?:ghost )?(?:use|open) (\S+?)\.\{(.*)\}", read(path), re.M):
+            if not re.match(own, source):
+                names.update(word.strip() for item in items.split(",") for word in item.split(" as "))
+    return names
+
+
+def without_dashes():
+    defined = set()
+    for path in proof_texts():
+        if not of_function(path):
+            defined.update(DEFINED.findall(read(path)))
+    dashed = [name for name in defined if "-" in name and not name[0].isupper()]
+    twice = collections.Counter(name.replace("-", "_") for name in dashed)
+    kept = imported() | defined
+    return {name: name.replace("-", "_") for name in dashed if name not in imported() and name.replace("-", "_") not in kept and twice[name.replace("-", "_")] == 1}
 
 
 def respelled(text, turned):
@@ -66,17 +93,7 @@ def in_marks(text, turned):
     return re.sub(r"`[^`\n]+`", lambda it: respelled(it.group(0), turned), text)
 
 
-def main():
-    turned = respellings()
-    if "--dry" in sys.argv:
-        print("\n".join(f"{name} {turned[name]}" for name in sorted(turned)))
-        return
-    for path in proof_texts():
-        before = read(path)
-        after = respelled(before, LEMMAS)
-        if after != before and "number_by." not in before:
-            with open(path, "w", encoding="utf-8") as file:
-                file.write(after)
+def turn_all(turned):
     turns = [(path, respelled) for path in proof_texts()]
     turns += [(path, aside) for path in sorted(glob.glob("crates/*/src/**/*.rt", recursive=True))]
     turns += [(path, in_marks) for path in sorted(glob.glob("docs/*.md")) + ["README.md", "CONTRIBUTING.md"] if path != "docs/PORT.md"]
@@ -87,6 +104,22 @@ def main():
             with open(path, "w", encoding="utf-8") as file:
                 file.write(after)
     print(len(turned), "names")
+
+
+def main():
+    if "--dry" in sys.argv:
+        for turned in (respellings(), without_dashes()):
+            print("\n".join(f"{name} {turned[name]}" for name in sorted(turned)))
+        return
+    turned = respellings()
+    for path in proof_texts() if turned else []:
+        before = read(path)
+        after = respelled(before, LEMMAS)
+        if after != before and "number_by." not in before:
+            with open(path, "w", encoding="utf-8") as file:
+                file.write(after)
+    turn_all(turned)
+    turn_all(without_dashes())
 
 
 main()

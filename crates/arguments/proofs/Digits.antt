@@ -17,14 +17,14 @@ both_true : (a b : Bool) → (a && b) ≡ true → (a ≡ true) × (b ≡ true)
 both_true true b e = (refl, e)
 both_true false b e = absurd (true≢false (sym e))
 
-after-least : (n : ℕ) (ds : List ℕ) → n ≤ decimal_after n ds
+after_least : (n : ℕ) (ds : List ℕ) → n ≤ decimal_after n ds
 unfolding decimal_after
-after-least n [] = omega arith
-after-least n (d ∷ ds) = omega (arith, after-least (n * 10 + (d - 48)) ds)
+after_least n [] = omega arith
+after_least n (d ∷ ds) = omega (arith, after_least (n * 10 + (d - 48)) ds)
 
-pub digit-range : (b : ℕ) → is_digit b ≡ true → (48 ≤ b) × (b ≤ 57)
+pub digit_range : (b : ℕ) → is_digit b ≡ true → (48 ≤ b) × (b ≤ 57)
 unfolding is_digit
-digit-range b e = let both = both_true (leb 48 b) (leb b 57) e in (leb-true 48 b both.0, leb-true b 57 both.1)
+digit_range b e = let both = both_true (leb 48 b) (leb b 57) e in (leb-true 48 b both.0, leb-true b 57 both.1)
 
 -- how far the reading has come: the value so far, and the rest of the text, tell all
 pub record SoFar (text : List ℕ) (value i : ℕ) : Type 0 where
@@ -37,17 +37,17 @@ begun text = record { number = refl; digits = refl }
 
 module _ (text : List ℕ) (most : ℕ) where
   -- the three ways to be wrong, and the one to be right
-  pub wrong-empty : length text ≡ 0 → Wrong ≡ argument_of text most
+  pub wrong_empty : length text ≡ 0 → Wrong ≡ argument_of text most
   unfolding argument_of
-  wrong-empty none = rw (lt-leb 1 (length text) (omega arith))
+  wrong_empty none = rw (lt-leb 1 (length text) (omega arith))
 
-  wrong-digits : all_digits text ≡ false → Wrong ≡ argument_of text most
+  wrong_digits : all_digits text ≡ false → Wrong ≡ argument_of text most
   unfolding argument_of
-  wrong-digits other = rw (other, and-false (leb 1 (length text)))
+  wrong_digits other = rw (other, and-false (leb 1 (length text)))
 
-  wrong-large : most < decimal text → Wrong ≡ argument_of text most
+  wrong_large : most < decimal text → Wrong ≡ argument_of text most
   unfolding argument_of
-  wrong-large large = rw (lt-leb (decimal text) most large, and-false (leb 1 (length text) && all_digits text))
+  wrong_large large = rw (lt-leb (decimal text) most large, and-false (leb 1 (length text) && all_digits text))
 
   module _ (value i : ℕ) (so : SoFar text value i) where
     pub right : 1 ≤ length text → length text ≤ i → value ≤ most → Number value ≡ argument_of text most
@@ -66,23 +66,23 @@ module _ (text : List ℕ) (most : ℕ) where
       unfolding decimal_after
       onward = rw (drop-cons text i 0 more) at so.number
 
-      digits-onward : (is_digit (get_or text i 0) && all_digits (drop (suc i) text)) ≡ all_digits text
+      digits_onward : (is_digit (get_or text i 0) && all_digits (drop (suc i) text)) ≡ all_digits text
       unfolding all_digits
-      digits-onward = rw (drop-cons text i 0 more) at so.digits
+      digits_onward = rw (drop-cons text i 0 more) at so.digits
 
       pub not_digit : is_digit (get_or text i 0) ≡ false → Wrong ≡ argument_of text most
-      not_digit other = wrong-digits (rw other at (sym digits-onward))
+      not_digit other = wrong_digits (rw other at (sym digits_onward))
 
       pub too_large : most < next → Wrong ≡ argument_of text most
-      too_large large = wrong-large (omega (arith, after-least next (drop (suc i) text), onward))
+      too_large large = wrong_large (omega (arith, after_least next (drop (suc i) text), onward))
 
       pub one_more : is_digit (get_or text i 0) ≡ true → SoFar text next (i + 1)
-      one_more digit = rw add-one record { number = onward; digits = rw digit at digits-onward }
+      one_more digit = rw add-one record { number = onward; digits = rw digit at digits_onward }
 
 -- an argument is at most what it may be
-pub within-most : (text : List ℕ) (most : ℕ) → AtMost (argument_of text most) most
+pub within_most : (text : List ℕ) (most : ℕ) → AtMost (argument_of text most) most
 unfolding argument_of
-within-most text most = by (leb 1 (length text) && all_digits text) (leb (decimal text) most) refl
+within_most text most = by (leb 1 (length text) && all_digits text) (leb (decimal text) most) refl
   where
     by : (front small : Bool) → leb (decimal text) most ≡ small → AtMost (cond (front && small) (Number (decimal text)) Wrong) most
     by true true e = leb-true (decimal text) most e

@@ -6,7 +6,7 @@ use native.Mathlib.Omega.{arith}
 use lib.ListN.{drop, length, take}
 use lib.Seq.{take_at}
 use Rattle.demands.proofs.Demands.{demands}
-use Rattle.demands.proofs.JsonNumbers.{one-line-numbers, one_name, one_number}
+use Rattle.demands.proofs.JsonNumbers.{one_line_numbers, one_name, one_number}
 use Rattle.demands.specs.Demands.{Writes}
 use Rattle.demands.specs.JsonNumbers.{json_numbers}
 use Rattle.demands.specs.Refusals.{RefusesAndKeeps}
@@ -17,36 +17,36 @@ use Rattle.lepsaino_c.specs.declared.answers.Answer.{Answer}
 use Rattle.lines.proofs.Pairs.{line-by}
 use Rattle.numbers.proofs.Alike.{number_by_lem}
 use Rattle.rows.specs.Rows.{Accepted, Row}
-use Rattle.text.proofs.Output.{fitted-all, fitted-same, is-put, some-said}
+use Rattle.text.proofs.Output.{fitted_all, fitted_same, is_put, some_said}
 use Rattle.text.specs.Output.{Fitted, Put, printed}
 use Rattle.writing.specs.Writing.{Change, filing, formatting, outcome_told, recording, registering, removing}
 use Rattle.writing.specs.declared.Outcome.{Outcome}
 use Rattle.contracts.specs.Calls.{Changed}
 use Rattle.contracts.specs.Demands.{CallsRefuse, NumbersLeave}
 use Rattle.contracts.proofs.Calls.{calls}
-use Rattle.contracts.proofs.Interface.{zero-accepts}
+use Rattle.contracts.proofs.Interface.{zero_accepts}
 
-changed-writes : (change : List ℕ → Change) (old new : List ℕ) (x : Outcome) → Writes (change old) old → Changed change old new x
+changed_writes : (change : List ℕ → Change) (old new : List ℕ) (x : Outcome) → Writes (change old) old → Changed change old new x
     → RefusesAndKeeps (change old).rows old new (outcome_told x)
-changed-writes change old new x writes did = (rw did.0 writes.0, λ some. did.1 ∙ writes.1 (rw did.0 at some))
+changed_writes change old new x writes did = (rw did.0 writes.0, λ some. did.1 ∙ writes.1 (rw did.0 at some))
 
-pub calls-refuse : CallsRefuse
-calls-refuse = record {
+pub calls_refuse : CallsRefuse
+calls_refuse = record {
   check = λ κs a p. rw (calls.check κs a p) (demands.first.checking _);
   find_name = λ κs a p. rw (calls.find_name κs a p) (demands.first.finding _ _);
-  find_name_with_names = λ κs a p. rw (calls.find_name_with_names κs a p) (demands.first.finding-with _ _ _);
+  find_name_with_names = λ κs a p. rw (calls.find_name_with_names κs a p) (demands.first.finding_with _ _ _);
   event = λ κs a p. rw (calls.event κs a p) (demands.first.event _ _ _);
   event_with_names = λ κs a p. rw (calls.event_with_names κs a p) (demands.first.event _ _ _);
   line = λ κs a p. demands.first.line _ _ _ _ _ _ _ (calls.line κs a p);
   line_with_names = λ κs a p. demands.first.line _ _ _ _ _ _ _ (calls.line_with_names κs a p);
   listing = λ κs a p. demands.first.listing _ _ _ _ _ _ (calls.listing κs a p);
   listing_with_names = λ κs a p. demands.first.listing _ _ _ _ _ _ (calls.listing_with_names κs a p);
-  format = λ κs a p. changed-writes (formatting a.1.0) _ _ _ (demands.first.formatting _ _) (calls.format κs a p);
-  «record» = λ κs a p. changed-writes (recording a.1.0) _ _ _ (demands.first.recording _ _) (calls.«record» κs a p);
-  register = λ κs a p. changed-writes (registering a.1.0 a.1.1.0.now) _ _ _ (demands.first.registering _ _ _) (calls.register κs a p);
-  remove = λ κs a p. changed-writes (removing a.1.0) _ _ _ (demands.first.removing _ _) (calls.remove κs a p);
+  format = λ κs a p. changed_writes (formatting a.1.0) _ _ _ (demands.first.formatting _ _) (calls.format κs a p);
+  «record» = λ κs a p. changed_writes (recording a.1.0) _ _ _ (demands.first.recording _ _) (calls.«record» κs a p);
+  register = λ κs a p. changed_writes (registering a.1.0 a.1.1.0.now) _ _ _ (demands.first.registering _ _ _) (calls.register κs a p);
+  remove = λ κs a p. changed_writes (removing a.1.0) _ _ _ (demands.first.removing _ _) (calls.remove κs a p);
   write_name = λ κs a p.
-      changed-writes (filing a.1.1.0 a.1.1.1.0 a.1.1.1.1.0.now a.1.0) _ _ _ (demands.first.filing _ _ _ _ _) (calls.write_name κs a p);
+      changed_writes (filing a.1.1.0 a.1.1.1.0 a.1.1.1.1.0.now a.1.0) _ _ _ (demands.first.filing _ _ _ _ _) (calls.write_name κs a p);
   mend = λ κs a p.
       let did = calls.mend κs a p in
       let keeps = demands.first.mending a.0.now a.1.0.now in
@@ -57,14 +57,14 @@ calls-refuse = record {
 -- the front of an output, where a printer has written
 front : (text old new : List ℕ) (n : ℕ) → Put (printed text old) old new n → (n ≡ 0 → ⊥) → take n new ≡ text
 front text old new n put some =
-    let done = is-put text old (some-said text old put some) put in
+    let done = is_put text old (some_said text old put some) put in
     ap (take n) done.bytes ∙ take_at text (drop (length text) old) n (sym done.count)
 
 -- and where one has fitted its text in
-fitted-front : (text old new : List ℕ) (n : ℕ) → Fitted text old new n → n ≤ length new → length new < 2 ^ 63 → take n new ≡ text
-fitted-front text old new n fitted room short =
-    let same = fitted-same text old fitted.bytes in
-    let done = fitted-all text (omega arith) (omega (arith, fitted.count)) fitted in
+fitted_front : (text old new : List ℕ) (n : ℕ) → Fitted text old new n → n ≤ length new → length new < 2 ^ 63 → take n new ≡ text
+fitted_front text old new n fitted room short =
+    let same = fitted_same text old fitted.bytes in
+    let done = fitted_all text (omega arith) (omega (arith, fitted.count)) fitted in
     ap (take n) done.bytes ∙ take_at text (drop (length text) old) n (sym done.count)
 
 -- what a line or a listing for C has written, where it was accepted
@@ -74,29 +74,29 @@ unfolding listed_answer listed_told
 handed rows text old new x passed gave =
     (rw passed at gave.gave, ap (λ (answer : Answer). answer.value) (rw passed at gave.answered))
 
-pub numbers-leave : NumbersLeave
-numbers-leave = record {
-  line = λ κs a p n written. demands.second.line-numbers _ _ _ _ _ _ n (rw written at (calls.line κs a p));
-  line_with_names = λ κs a p n written. demands.second.line-numbers _ _ _ _ _ _ n (rw written at (calls.line_with_names κs a p));
+pub numbers_leave : NumbersLeave
+numbers_leave = record {
+  line = λ κs a p n written. demands.second.line_numbers _ _ _ _ _ _ n (rw written at (calls.line κs a p));
+  line_with_names = λ κs a p n written. demands.second.line_numbers _ _ _ _ _ _ n (rw written at (calls.line_with_names κs a p));
   listing = λ κs a p n written. demands.second.numbers _ _ _ _ _ n (rw written at (calls.listing κs a p));
   listing_with_names = λ κs a p n written. demands.second.numbers _ _ _ _ _ n (rw written at (calls.listing_with_names κs a p));
-  put_line = λ κs a p some. ap json_numbers (front _ _ _ _ p.allowed some) ∙ one-line-numbers _ _ _;
+  put_line = λ κs a p some. ap json_numbers (front _ _ _ _ p.allowed some) ∙ one_line_numbers _ _ _;
   put_number = λ κs a p some. ap json_numbers (front _ _ _ _ p.allowed some) ∙ one_number _;
   put_name = λ κs a p some. ap json_numbers (front _ _ _ _ p.allowed some) ∙ one_name _;
-  fit_line = λ κs a p rule room short. ap json_numbers (fitted-front _ _ _ _ (rw (line-by _ rule _ _ _) at p.allowed) room short) ∙ one-line-numbers _ _ _;
-  fit_number = λ κs a p rule room short. ap json_numbers (fitted-front _ _ _ _ (rw (number_by_lem _ rule _) at p.allowed) room short) ∙ one_number _;
-  fit_name = λ κs a p room short. ap json_numbers (fitted-front _ _ _ _ p.allowed room short) ∙ one_name _;
+  fit_line = λ κs a p rule room short. ap json_numbers (fitted_front _ _ _ _ (rw (line-by _ rule _ _ _) at p.allowed) room short) ∙ one_line_numbers _ _ _;
+  fit_number = λ κs a p rule room short. ap json_numbers (fitted_front _ _ _ _ (rw (number_by_lem _ rule _) at p.allowed) room short) ∙ one_number _;
+  fit_name = λ κs a p room short. ap json_numbers (fitted_front _ _ _ _ p.allowed room short) ∙ one_name _;
   lepsaino_line = λ κs a p none.
-      let (wrote, size) = handed _ _ _ _ _ (zero-accepts.line _ _ _ _ _ _ _ p.allowed none) p.allowed in
-      ap (λ (n : ℕ). json_numbers (take n p.left.1.1.1.0)) size ∙ demands.second.line-numbers _ _ _ _ _ _ _ wrote;
+      let (wrote, size) = handed _ _ _ _ _ (zero_accepts.line _ _ _ _ _ _ _ p.allowed none) p.allowed in
+      ap (λ (n : ℕ). json_numbers (take n p.left.1.1.1.0)) size ∙ demands.second.line_numbers _ _ _ _ _ _ _ wrote;
   lepsaino_line_with_names = λ κs a p none.
-      let (wrote, size) = handed _ _ _ _ _ (zero-accepts.line _ _ _ _ _ _ _ p.allowed none) p.allowed in
-      ap (λ (n : ℕ). json_numbers (take n p.left.1.1.1.1.0)) size ∙ demands.second.line-numbers _ _ _ _ _ _ _ wrote;
+      let (wrote, size) = handed _ _ _ _ _ (zero_accepts.line _ _ _ _ _ _ _ p.allowed none) p.allowed in
+      ap (λ (n : ℕ). json_numbers (take n p.left.1.1.1.1.0)) size ∙ demands.second.line_numbers _ _ _ _ _ _ _ wrote;
   lepsaino_listing = λ κs a p none.
-      let (wrote, size) = handed _ _ _ _ _ (zero-accepts.listing _ _ _ _ _ _ p.allowed none) p.allowed in
+      let (wrote, size) = handed _ _ _ _ _ (zero_accepts.listing _ _ _ _ _ _ p.allowed none) p.allowed in
       ap (λ (n : ℕ). json_numbers (take n p.left.1.1.0)) size ∙ demands.second.numbers _ _ _ _ _ _ wrote;
   lepsaino_listing_with_names = λ κs a p none.
-      let (wrote, size) = handed _ _ _ _ _ (zero-accepts.listing _ _ _ _ _ _ p.allowed none) p.allowed in
+      let (wrote, size) = handed _ _ _ _ _ (zero_accepts.listing _ _ _ _ _ _ p.allowed none) p.allowed in
       ap (λ (n : ℕ). json_numbers (take n p.left.1.1.1.0)) size ∙ demands.second.numbers _ _ _ _ _ _ wrote;
   lepsaino_number = λ κs a p some. ap json_numbers (front _ _ _ _ p.allowed some) ∙ one_number _;
 }

@@ -9,7 +9,7 @@ use native.Mathlib.Omega.{arith}
 use borrow.Author.Tests.{ne_eqb}
 use lib.ListN.{length}
 use Rattle.demands.proofs.Names.{names}
-use Rattle.demands.proofs.Refusals.{first-demand}
+use Rattle.demands.proofs.Refusals.{first_demand}
 use Rattle.demands.specs.Demands.{Writes}
 use Rattle.demands.specs.Names.{LiesThere, LiesWithin, name_shown}
 use Rattle.demands.specs.Refusals.{RefusesAndKeeps, Unbroken}
@@ -67,8 +67,8 @@ interface = record {
   lepsaino_mend = leaves (λ κs a x e p. p) (λ κs a v w e i. (tt, (e i, tt)));
 }
 
-pub interface-gives : InterfaceGives
-interface-gives = record {
+pub interface_gives : InterfaceGives
+interface_gives = record {
   check = λ κs a p. p.allowed;
   begin = λ κs a p. p.allowed;
   feed = λ κs a p. p.allowed;
@@ -90,57 +90,57 @@ interface-gives = record {
   mend = λ κs a p. (_, p.allowed.0, (refl, p.allowed.1));
 }
 
-changed-tells : (change : List ℕ → Change) (old new : List ℕ) (x : Answer) → Writes (change old) old → x ≡ outcome_answer (said (change old)) → new ≡ left (change old) old
+changed_tells : (change : List ℕ → Change) (old new : List ℕ) (x : Answer) → Writes (change old) old → x ≡ outcome_answer (said (change old)) → new ≡ left (change old) old
     → TellsAndKeeps answer_of (change old).rows old new x
 unfolding outcome_answer
-changed-tells change old new x writes told kept = (outcome_told (said (change old)), told, (writes.0, λ some. kept ∙ writes.1 some))
+changed_tells change old new x writes told kept = (outcome_told (said (change old)), told, (writes.0, λ some. kept ∙ writes.1 some))
 
-printed-tells : (rows : List Row) (text old new : List ℕ) (x : Answer) → RefusesAndKeeps rows old new (listed_told (listed_by (first_broken rows) (length text)))
+printed_tells : (rows : List Row) (text old new : List ℕ) (x : Answer) → RefusesAndKeeps rows old new (listed_told (listed_by (first_broken rows) (length text)))
     → GaveNumbers rows text old new x → TellsAndKeeps answer_of rows old new x
 unfolding listed_answer
-printed-tells rows text old new x keeps gave = (listed_told (listed_by (first_broken rows) (length text)), gave.answered, keeps)
+printed_tells rows text old new x keeps gave = (listed_told (listed_by (first_broken rows) (length text)), gave.answered, keeps)
 
-pub interface-refuses : InterfaceRefuses
+pub interface_refuses : InterfaceRefuses
 unfolding check_answer event_answer name_answer mend_answer
-interface-refuses = record {
-  check = λ κs a p. (checked_told (check_of a.0.now), p.allowed, first-demand.checking _);
-  finish = λ κs a p. (checked_told (finished a.0), p.allowed, first-demand.finishing _);
-  event = λ κs a p. (shown_told (event_of none a.0.now a.1.0), p.allowed, first-demand.event _ _ _);
-  event_with_names = λ κs a p. (shown_told (event_of (some a.1.0.now) a.0.now a.1.1.0), p.allowed, first-demand.event _ _ _);
-  find_name = λ κs a p. (found_told (find_name a.0.now a.1.0), p.allowed, first-demand.finding _ _);
-  find_name_with_names = λ κs a p. (found_told (find_name_with (some a.1.0.now) a.0.now a.1.1.0), p.allowed, first-demand.finding-with _ _ _);
-  line = λ κs a p. printed-tells _ _ _ _ _ (first-demand.line _ _ _ _ _ _ _ p.allowed.gave) p.allowed;
-  line_with_names = λ κs a p. printed-tells _ _ _ _ _ (first-demand.line _ _ _ _ _ _ _ p.allowed.gave) p.allowed;
-  listing = λ κs a p. printed-tells _ _ _ _ _ (first-demand.listing _ _ _ _ _ _ p.allowed.gave) p.allowed;
-  listing_with_names = λ κs a p. printed-tells _ _ _ _ _ (first-demand.listing _ _ _ _ _ _ p.allowed.gave) p.allowed;
-  format = λ κs a p. changed-tells (formatting (format_given a.1.0)) _ _ _ (first-demand.formatting _ _) p.allowed.0 p.allowed.1;
-  «record» = λ κs a p. changed-tells (recording a.1.0) _ _ _ (first-demand.recording _ _) p.allowed.0 p.allowed.1;
-  register = λ κs a p. changed-tells (registering a.1.0 a.1.1.0.now) _ _ _ (first-demand.registering _ _ _) p.allowed.0 p.allowed.1;
-  remove = λ κs a p. changed-tells (removing a.1.0) _ _ _ (first-demand.removing _ _) p.allowed.0 p.allowed.1;
+interface_refuses = record {
+  check = λ κs a p. (checked_told (check_of a.0.now), p.allowed, first_demand.checking _);
+  finish = λ κs a p. (checked_told (finished a.0), p.allowed, first_demand.finishing _);
+  event = λ κs a p. (shown_told (event_of none a.0.now a.1.0), p.allowed, first_demand.event _ _ _);
+  event_with_names = λ κs a p. (shown_told (event_of (some a.1.0.now) a.0.now a.1.1.0), p.allowed, first_demand.event _ _ _);
+  find_name = λ κs a p. (found_told (find_name a.0.now a.1.0), p.allowed, first_demand.finding _ _);
+  find_name_with_names = λ κs a p. (found_told (find_name_with (some a.1.0.now) a.0.now a.1.1.0), p.allowed, first_demand.finding_with _ _ _);
+  line = λ κs a p. printed_tells _ _ _ _ _ (first_demand.line _ _ _ _ _ _ _ p.allowed.gave) p.allowed;
+  line_with_names = λ κs a p. printed_tells _ _ _ _ _ (first_demand.line _ _ _ _ _ _ _ p.allowed.gave) p.allowed;
+  listing = λ κs a p. printed_tells _ _ _ _ _ (first_demand.listing _ _ _ _ _ _ p.allowed.gave) p.allowed;
+  listing_with_names = λ κs a p. printed_tells _ _ _ _ _ (first_demand.listing _ _ _ _ _ _ p.allowed.gave) p.allowed;
+  format = λ κs a p. changed_tells (formatting (format_given a.1.0)) _ _ _ (first_demand.formatting _ _) p.allowed.0 p.allowed.1;
+  «record» = λ κs a p. changed_tells (recording a.1.0) _ _ _ (first_demand.recording _ _) p.allowed.0 p.allowed.1;
+  register = λ κs a p. changed_tells (registering a.1.0 a.1.1.0.now) _ _ _ (first_demand.registering _ _ _) p.allowed.0 p.allowed.1;
+  remove = λ κs a p. changed_tells (removing a.1.0) _ _ _ (first_demand.removing _ _) p.allowed.0 p.allowed.1;
   write_name = λ κs a p.
-      changed-tells (filing (subject_given a.1.1.0) a.1.1.1.0 a.1.1.1.1.0.now a.1.0) _ _ _ (first-demand.filing _ _ _ _ _) p.allowed.0 p.allowed.1;
+      changed_tells (filing (subject_given a.1.1.0) a.1.1.1.0 a.1.1.1.1.0.now a.1.0) _ _ _ (first_demand.filing _ _ _ _ _) p.allowed.0 p.allowed.1;
   mend = λ κs a p.
-      let keeps = first-demand.mending a.0.now a.1.0.now in
+      let keeps = first_demand.mending a.0.now a.1.0.now in
       (mended_told (mend_of a.0.now (length a.1.0.now)), p.allowed.0, (keeps.0, λ some. p.allowed.1 ∙ keeps.1 some));
 }
 
-order-back : (o : Order) → order_given (order_number o) ≡ o
+order_back : (o : Order) → order_given (order_number o) ≡ o
 unfolding order_given order_number
-order-back Big = refl
-order-back Little = refl
+order_back Big = refl
+order_back Little = refl
 
 -- an event tells three numbers of each of its names, one behind the other
-given-told : (slot : Slot) (ticks context : ℕ) (name title : Name)
+given_told : (slot : Slot) (ticks context : ℕ) (name title : Name)
     → event_answer_of (told_values (slot_numbers slot ++ (ticks ∷ context ∷ name_numbers name ++ name_numbers title)))
     ≡ event_struct slot ticks context (name_answer (found.Searched name)) (name_answer (found.Searched title))
 unfolding slot_numbers name_answer found_told name_numbers
-given-told slot ticks context Nameless title = refl
-given-told slot ticks context (Named kind at size) title = refl
-given-told slot ticks context (Filed at size) title = refl
+given_told slot ticks context Nameless title = refl
+given_told slot ticks context (Named kind at size) title = refl
+given_told slot ticks context (Filed at size) title = refl
 
-any-other : (n : ℕ) → (n ≡ 0 → ⊥) → subject_given n ≡ subject.Thread
+any_other : (n : ℕ) → (n ≡ 0 → ⊥) → subject_given n ≡ subject.Thread
 unfolding subject_given
-any-other n other = rw (ne_eqb n 0 other)
+any_other n other = rw (ne_eqb n 0 other)
 
 pub structs : Structs
 unfolding check_answer event_answer name_answer listed_answer outcome_answer mend_answer checked_told shown_told found_told listed_told outcome_told mended_told header_numbers event_numbers slot_numbers kind_number name_numbers subject_given
@@ -157,42 +157,42 @@ structs = record {
   filed = λ at length. refl;
   nameless = refl;
   sound = λ h n. refl;
-  given = λ e. given-told _ _ _ e.name e.title;
+  given = λ e. given_told _ _ _ e.name e.title;
   copied = λ n r. refl;
-  order = order-back;
-  event-record = refl;
-  thread-record = any-other;
+  order = order_back;
+  event_record = refl;
+  thread_record = any_other;
 }
 
 -- rows of which none is broken have passed
-all-passed : (rows : List Row) → Each Unbroken rows → Accepted rows
+all_passed : (rows : List Row) → Each Unbroken rows → Accepted rows
 unfolding first_broken
-all-passed [] kept = refl
-all-passed (r ∷ rows) kept = rw kept.0 (all-passed rows kept.1)
+all_passed [] kept = refl
+all_passed (r ∷ rows) kept = rw kept.0 (all_passed rows kept.1)
 
-pub zero-accepts : ZeroAccepts
+pub zero_accepts : ZeroAccepts
 unfolding check_answer event_answer name_answer listed_answer outcome_answer mend_answer
-zero-accepts = record {
-  check = λ s none. all-passed _ ((first-demand.checking s).zero none).2;
-  finish = λ p none. all-passed _ ((first-demand.finishing p).zero none).2;
-  event = λ file s position none. all-passed _ ((first-demand.event file s position).zero none).2;
-  find_name = λ s pointer none. all-passed _ ((first-demand.finding s pointer).zero none).2;
-  find_name_with_names = λ file s pointer none. all-passed _ ((first-demand.finding-with file s pointer).zero none).2;
+zero_accepts = record {
+  check = λ s none. all_passed _ ((first_demand.checking s).zero none).2;
+  finish = λ p none. all_passed _ ((first_demand.finishing p).zero none).2;
+  event = λ file s position none. all_passed _ ((first_demand.event file s position).zero none).2;
+  find_name = λ s pointer none. all_passed _ ((first_demand.finding s pointer).zero none).2;
+  find_name_with_names = λ file s pointer none. all_passed _ ((first_demand.finding_with file s pointer).zero none).2;
   line = λ file s r position old new numbers gave none.
-      all-passed _ ((first-demand.line file s r position old new _ gave.gave).0.zero (sym (ap (λ (x : Answer). x.refusal) gave.answered) ∙ none)).2;
+      all_passed _ ((first_demand.line file s r position old new _ gave.gave).0.zero (sym (ap (λ (x : Answer). x.refusal) gave.answered) ∙ none)).2;
   listing = λ file s r old new numbers gave none.
-      all-passed _ ((first-demand.listing file s r old new _ gave.gave).0.zero (sym (ap (λ (x : Answer). x.refusal) gave.answered) ∙ none)).2;
-  format = λ f s none. all-passed _ ((first-demand.formatting f s).0.zero none).2;
-  «record» = λ slot s none. all-passed _ ((first-demand.recording slot s).0.zero none).2;
-  register = λ object name s none. all-passed _ ((first-demand.registering object name s).0.zero none).2;
-  remove = λ pointer s none. all-passed _ ((first-demand.removing pointer s).0.zero none).2;
-  write_name = λ subject number name offset s none. all-passed _ ((first-demand.filing subject number name offset s).0.zero none).2;
-  mend = λ s old none. all-passed _ ((first-demand.mending s old).0.zero none).2;
+      all_passed _ ((first_demand.listing file s r old new _ gave.gave).0.zero (sym (ap (λ (x : Answer). x.refusal) gave.answered) ∙ none)).2;
+  format = λ f s none. all_passed _ ((first_demand.formatting f s).0.zero none).2;
+  «record» = λ slot s none. all_passed _ ((first_demand.recording slot s).0.zero none).2;
+  register = λ object name s none. all_passed _ ((first_demand.registering object name s).0.zero none).2;
+  remove = λ pointer s none. all_passed _ ((first_demand.removing pointer s).0.zero none).2;
+  write_name = λ subject number name offset s none. all_passed _ ((first_demand.filing subject number name offset s).0.zero none).2;
+  mend = λ s old none. all_passed _ ((first_demand.mending s old).0.zero none).2;
 }
 
-refused-told : (f : Refusal) → event_answer (shown.Refused f) ≡ event_answer_of (told_refusal f)
+refused_told : (f : Refusal) → event_answer (shown.Refused f) ≡ event_answer_of (told_refusal f)
 unfolding event_answer shown_told
-refused-told f = refl
+refused_told f = refl
 
 -- a name of the file, or none, as it is told
 abbrev InFile : List ℕ → Name → Type 0
@@ -202,32 +202,32 @@ InFile f name =
 
 module _ (s : List ℕ) where
   -- where a name is told, or none, its place and length are those of the name
-  told-within : (name : Name) → LiesWithin name s → (name_answer (found.Searched name)).at + (name_answer (found.Searched name)).length ≤ length s
+  told_within : (name : Name) → LiesWithin name s → (name_answer (found.Searched name)).at + (name_answer (found.Searched name)).length ≤ length s
   unfolding name_answer found_told name_numbers
-  told-within Nameless within = within
-  told-within (Named kind at size) within = within
-  told-within (Filed at size) within = within
+  told_within Nameless within = within
+  told_within (Named kind at size) within = within
+  told_within (Filed at size) within = within
 
   -- without a file none lies in one
-  in-dump : (name : Name) → LiesThere none s name → LiesWithin name s
-  in-dump Nameless within = within
-  in-dump (Named kind at size) within = within
-  in-dump (Filed at size) within = omega (arith, within)
+  in_dump : (name : Name) → LiesThere none s name → LiesWithin name s
+  in_dump Nameless within = within
+  in_dump (Named kind at size) within = within
+  in_dump (Filed at size) within = omega (arith, within)
 
   -- with one, its kind says where it lies
-  told-there : (f : List ℕ) (name : Name) → LiesThere (some f) s name
+  told_there : (f : List ℕ) (name : Name) → LiesThere (some f) s name
       → let x = name_answer (found.Searched name) in
       x.at + x.length ≤ length (lying_by x.kind f s)
   unfolding name_answer found_told name_numbers kind_number
-  told-there f Nameless within = within
-  told-there f (Named Live at size) within = within
-  told-there f (Named Gone at size) within = within
-  told-there f (Filed at size) within = within
+  told_there f Nameless within = within
+  told_there f (Named Live at size) within = within
+  told_there f (Named Gone at size) within = within
+  told_there f (Filed at size) within = within
 
   -- and a record's name is the file's
-  in-file : (f : List ℕ) (subject : Subject) (number : ℕ) → LiesThere (some f) s (record_name subject f number) → InFile f (record_name subject f number)
+  in_file : (f : List ℕ) (subject : Subject) (number : ℕ) → LiesThere (some f) s (record_name subject f number) → InFile f (record_name subject f number)
   unfolding record_name name_answer found_told name_numbers
-  in-file f subject number = by (has_record (Naming subject number) f) (record_at f (first_record (Naming subject number) f))
+  in_file f subject number = by (has_record (Naming subject number) f) (record_at f (first_record (Naming subject number) f))
     where
       by : (has : Bool) (at : ℕ) → LiesThere (some f) s (cond has (name_at f at) Nameless) → InFile f (cond has (name_at f at) Nameless)
       by true at within = inl (refl, within)
@@ -236,42 +236,42 @@ module _ (s : List ℕ) where
   found_within : (x : Found) → LiesWithin (name_found x) s → (name_answer x).at + (name_answer x).length ≤ length s
   unfolding name_answer found_told
   found_within (found.Refused f) within = omega arith
-  found_within (found.Searched name) within = told-within name within
+  found_within (found.Searched name) within = told_within name within
 
-  found-there : (f : List ℕ) (x : Found) → LiesThere (some f) s (name_found x) → (name_answer x).at + (name_answer x).length ≤ length (lying_by (name_answer x).kind f s)
+  found_there : (f : List ℕ) (x : Found) → LiesThere (some f) s (name_found x) → (name_answer x).at + (name_answer x).length ≤ length (lying_by (name_answer x).kind f s)
   unfolding name_answer found_told
-  found-there f (found.Refused fault) within = omega arith
-  found-there f (found.Searched name) within = told-there f name within
+  found_there f (found.Refused fault) within = omega arith
+  found_there f (found.Searched name) within = told_there f name within
 
-  event-within : (x : Shown) → LiesThere none s (name_shown x) → (event_answer x).name_at + (event_answer x).name_length ≤ length s
-  event-within (shown.Refused f) within = rw (refused-told f) (omega arith)
-  event-within (shown.Given e) within = rw (structs.given e) (told-within e.name (in-dump e.name within))
+  event_within : (x : Shown) → LiesThere none s (name_shown x) → (event_answer x).name_at + (event_answer x).name_length ≤ length s
+  event_within (shown.Refused f) within = rw (refused_told f) (omega arith)
+  event_within (shown.Given e) within = rw (structs.given e) (told_within e.name (in_dump e.name within))
 
-  event-there : (f : List ℕ) (x : Shown) → LiesThere (some f) s (name_shown x)
+  event_there : (f : List ℕ) (x : Shown) → LiesThere (some f) s (name_shown x)
       → (event_answer x).name_at + (event_answer x).name_length ≤ length (lying_by (event_answer x).name_kind f s)
-  event-there f (shown.Refused fault) within = rw (refused-told fault) (omega arith)
-  event-there f (shown.Given e) within = rw (structs.given e) (told-there f e.name within)
+  event_there f (shown.Refused fault) within = rw (refused_told fault) (omega arith)
+  event_there f (shown.Given e) within = rw (structs.given e) (told_there f e.name within)
 
   titled : (f : List ℕ) (position : ℕ) (shown : Shown) → event_of (some f) s position ≡ shown
       → let x = event_answer shown in
       ((x.event_kind ≡ 3) × (x.event_at + x.event_length ≤ length f)) ⊎ Untitled x
   unfolding name_in
-  titled f position (shown.Refused fault) is = rw (refused-told fault) (inr (refl, refl, refl))
+  titled f position (shown.Refused fault) is = rw (refused_told fault) (inr (refl, refl, refl))
   titled f position (shown.Given e) is =
-      let there = rw ((names s).title (some f) position e is) at ((names s).title-within (some f) position e is) in
-      rw (structs.given e, (names s).title (some f) position e is) (in-file f subject.Event e.slot.id there)
+      let there = rw ((names s).title (some f) position e is) at ((names s).title_within (some f) position e is) in
+      rw (structs.given e, (names s).title (some f) position e is) (in_file f subject.Event e.slot.id there)
 
   untitled : (position : ℕ) (x : Shown) → event_of none s position ≡ x → Untitled (event_answer x)
   unfolding name_in
-  untitled position (shown.Refused f) is = rw (refused-told f) (refl, refl, refl)
+  untitled position (shown.Refused f) is = rw (refused_told f) (refl, refl, refl)
   untitled position (shown.Given e) is = rw (structs.given e, (names s).title none position e is, structs.nameless) (refl, refl, refl)
 
-pub names-within : NamesWithin
-names-within = record {
+pub names_within : NamesWithin
+names_within = record {
   found = λ s pointer. found_within s (find_name s pointer) ((names s).within pointer);
-  found-with = λ f s pointer. found-there s f (find_name_with (some f) s pointer) ((names s).within-with (some f) pointer);
-  event = λ s position. event-within s (event_of none s position) ((names s).event-within none position);
-  event-with = λ f s position. event-there s f (event_of (some f) s position) ((names s).event-within (some f) position);
+  found_with = λ f s pointer. found_there s f (find_name_with (some f) s pointer) ((names s).within_with (some f) pointer);
+  event = λ s position. event_within s (event_of none s position) ((names s).event_within none position);
+  event-with = λ f s position. event_there s f (event_of (some f) s position) ((names s).event_within (some f) position);
   titled = λ f s position. titled s f position (event_of (some f) s position) refl;
   untitled = λ s position. untitled s position (event_of none s position) refl;
 }

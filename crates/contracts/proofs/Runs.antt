@@ -48,18 +48,18 @@ unfolding first_broken
 no-file = refl
 
 -- of a buffer with so many writes, whatever a listing is allowed to give, with the name file or without
-shown-lists : (mask k n : ℕ) (ws : List Write) (t : List ℕ) → length ws ≡ k → Shows mask k n ws t
+shown_lists : (mask k n : ℕ) (ws : List Write) (t : List ℕ) → length ws ≡ k → Shows mask k n ws t
     → (file : Option (List ℕ)) (s : List ℕ) (r : Reading) (old new : List ℕ) (answer : Listed) → s ≡ t → ReadingAccepted r (length (last_of n ws)) → Accepted (file_rows file)
     → let text = lines_of file t r (last_of n ws) in
     length text ≤ length old → Gave (listing_rows file s (header_of s) r (length old)) (listing_text file s (header_of s) r) old new answer
     → (answer ≡ Written (length text)) × (new ≡ text ++ drop (length text) old)
-shown-lists mask k n ws t many shows file s r old new answer here accepted passed fits gave =
+shown_lists mask k n ws t many shows file s r old new answer here accepted passed fits gave =
     let listed : length (last_of n ws) ≡ min k n = length-drop (length ws - n) ws ∙ omega arith in
     shows.lists file r old new answer (subst (ReadingAccepted r) listed accepted) passed fits
     (subst (λ (s : List ℕ). Gave (listing_rows file s (header_of s) r (length old)) (listing_text file s (header_of s) r) old new answer) here gave)
 
 pub runs : Runs
-runs κs a p k n cs ws t done word run typed many = (shows, lists, lists-with-names)
+runs κs a p k n cs ws t done word run typed many = (shows, lists, lists_with_names)
   where
     made : (p.result ≡ said (formatting a.1.0 a.0.now)) × (p.left.0 ≡ left (formatting a.1.0 a.0.now) a.0.now)
     made = calls.format κs a p
@@ -76,7 +76,7 @@ runs κs a p k n cs ws t done word run typed many = (shows, lists, lists-with-na
         (demands.third k n a.1.0 a.0.now cs word (sym made.0 ∙ done) typed (subst (NoneFormats recording cs) made.1 (ran run).2) (ap length (sym writes) ∙ many))
 
     lists : Lists (last_of n ws) t
-    lists κs a p here accepted fits = shown-lists _ k n ws t many shows no_file _ _ _ _ _ here accepted no-file fits (calls.listing κs a p)
+    lists κs a p here accepted fits = shown_lists _ k n ws t many shows no_file _ _ _ _ _ here accepted no-file fits (calls.listing κs a p)
 
-    lists-with-names : ListsWithNames (last_of n ws) t
-    lists-with-names κs a p here accepted passed fits = shown-lists _ k n ws t many shows (some a.1.0.now) _ _ _ _ _ here accepted passed fits (calls.listing_with_names κs a p)
+    lists_with_names : ListsWithNames (last_of n ws) t
+    lists_with_names κs a p here accepted passed fits = shown_lists _ k n ws t many shows (some a.1.0.now) _ _ _ _ _ here accepted passed fits (calls.listing_with_names κs a p)

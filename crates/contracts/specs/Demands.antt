@@ -111,7 +111,7 @@ pub record CallsRefuse : Type 0 where
   pub mend : Allows mender-contracts.mend.ended mender.mend.Reads.Learnt (λ κs a x last.
       let s = a.0.now in let old = a.1.0.now in let new = last.1.0 in
       RefusesAndKeeps (mending_rows s (header_of s) (length old)) old new (mended_told x))
-  -- finish(self), by what the state shows; that this is the whole check of the bytes fed, `checks-in-pieces` says
+  -- finish(self), by what the state shows; that this is the whole check of the bytes fed, `checks_in_pieces` says
   pub finish : Allows pieces-contracts.finish.ended pieces.finish.Reads.Learnt (λ κs a x last. Refuses (finish_rows a.0) (checked_told x))
 
 -- of the second demand its last clause: in what leaves, the JSON numbers are the digits of the numbers below two to the fifty-third, in their order.

@@ -257,8 +257,8 @@ pub record Structs : Type 0 where
       ≡ record { refusal = 0; place = 0; length = n; missing = r.missing; current = r.current; types = r.types; ids = r.ids; packed = r.packed; moved = r.moved }
   pub order : (o : Order) → order_given (order_number o) ≡ o
   -- whose record is written: 0 says an event's, and any other number a thread's
-  pub event-record : subject_given 0 ≡ subject.Event
-  pub thread-record : (n : ℕ) → (n ≡ 0 → ⊥) → subject_given n ≡ subject.Thread
+  pub event_record : subject_given 0 ≡ subject.Event
+  pub thread_record : (n : ℕ) → (n ≡ 0 → ⊥) → subject_given n ≡ subject.Thread
 
 -- where the number handed to a C caller is 0, no row of the call's order is broken
 pub record ZeroAccepts : Type 0 where
@@ -292,7 +292,7 @@ Untitled x = (x.event_kind ≡ 0) × (x.event_at ≡ 0) × (x.event_length ≡ 0
 -- a name that a C caller is told of lies within the dump or, where its kind is 3, within the name file that was given
 pub record NamesWithin : Type 0 where
   pub found : (s : List ℕ) (pointer : ℕ) → (name_answer (find_name s pointer)).at + (name_answer (find_name s pointer)).length ≤ length s
-  pub found-with : (f s : List ℕ) (pointer : ℕ)
+  pub found_with : (f s : List ℕ) (pointer : ℕ)
       → let x = name_answer (find_name_with (some f) s pointer) in
       x.at + x.length ≤ length (lying_by x.kind f s)
   pub event : (s : List ℕ) (position : ℕ)

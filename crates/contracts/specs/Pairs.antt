@@ -16,6 +16,6 @@ pub record ByPairs : Type 0 where
   -- a table by which every number is its text does
   pub only : (table : List ℕ) → ((n : ℕ) → number_by table n ≡ number n) → HasPairs table
   -- and by any table both are as long as their texts
-  pub number-lengths : (table : List ℕ) (n : ℕ) → length (number_by table n) ≡ length (number n)
-  pub line-lengths : (table : List ℕ) (l : Line) (event : Option (Option (List ℕ))) (name : Option (List ℕ))
+  pub number_lengths : (table : List ℕ) (n : ℕ) → length (number_by table n) ≡ length (number n)
+  pub line_lengths : (table : List ℕ) (l : Line) (event : Option (Option (List ℕ))) (name : Option (List ℕ))
       → length (line_by table l event name) ≡ length (line l event name)

@@ -16,7 +16,7 @@ pub data Feeds : Pieces → List ℕ → Pieces → Type 0 where
       → Feeds a.0 a.1.0.now p.result
 
 pub data FeedsForC : Pieces → List ℕ → Pieces → Type 0 where
-  feeds-for-c : (κs : Lives calls-contracts.lepsaino_feed.ended) (a : Arguments calls-contracts.lepsaino_feed.ended κs)
+  feeds_for_c : (κs : Lives calls-contracts.lepsaino_feed.ended) (a : Arguments calls-contracts.lepsaino_feed.ended κs)
       (p : Answer calls-contracts.lepsaino_feed.ended calls.lepsaino_feed.Reads.Learnt κs a) → FeedsForC a.0 a.1.0.now p.result
 
 -- pieces one after another

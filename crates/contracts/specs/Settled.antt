@@ -31,8 +31,8 @@ module _ (T : Ended) where
 
   -- any two are equal, in so far as the result is seen
   pub record SettledAs (asked : Asking) (learnt : Telling) {Seen : Lives → Type 0} (seen : (κs : Lives) → Result κs → Seen κs) : Type 0 where
-    pub asks-nothing : (κs : Lives) (a : Arguments κs) → asked κs a
-    pub one-answer : (κs : Lives) (a : Arguments κs) (p q : Answer learnt κs a) → (seen κs p.result ≡ seen κs q.result) × (p.left ≡ q.left)
+    pub asks_nothing : (κs : Lives) (a : Arguments κs) → asked κs a
+    pub one_answer : (κs : Lives) (a : Arguments κs) (p q : Answer learnt κs a) → (seen κs p.result ≡ seen κs q.result) × (p.left ≡ q.left)
 
   -- the whole result is seen
   abbrev pub Settled : Asking → Telling → Type 0

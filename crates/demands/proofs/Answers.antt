@@ -10,7 +10,7 @@ use Rattle.events.specs.Listing.{Gave}
 use Rattle.events.specs.declared.Event.{Event}
 use Rattle.events.specs.declared.Listed.TheVariants.{Written}
 use Rattle.events.specs.declared.Shown.TheVariants.{Given}
-use Rattle.rows.proofs.Rows.{passed-before, then-rest}
+use Rattle.rows.proofs.Rows.{passed_before, then_rest}
 use Rattle.rows.specs.Rows.{Accepted, Row, first_broken}
 use Rattle.rows.specs.declared.Refusal.{Refusal}
 use Rattle.rows.specs.declared.Verdict.{Verdict}
@@ -23,7 +23,7 @@ use Rattle.writing.specs.declared.Outcome.TheVariants as outcome
 
 -- rows behind others have passed where all have
 pub passed-behind : (rows more : List Row) → Accepted (rows ++ more) → Accepted more
-passed-behind rows more passed = then-rest rows more (passed-before rows more passed) ∙ passed
+passed-behind rows more passed = then_rest rows more (passed_before rows more passed) ∙ passed
 
 pub searched-is : (v : Verdict) (sought name : Name) → found_by v sought ≡ Searched name → (v ≡ Passed) × (name ≡ sought)
 searched-is (Refused f) sought name e = (cc, cc)

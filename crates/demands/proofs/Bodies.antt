@@ -10,16 +10,16 @@ use borrow.Author.Tests.{le-ltb, lt-ltb, ltb-true, ltb-false}
 use lib.Dec.{eqb, ltb}
 use lib.ListN.{get_or, length, replicate, set, length-set}
 use lib.Seq.{get_or-set_other, get_or-set_same}
-use Rattle.header.proofs.Steps.{step-more}
-use Rattle.pieces.proofs.Filled.{slots-left}
+use Rattle.header.proofs.Steps.{step_more}
+use Rattle.pieces.proofs.Filled.{slots_left}
 use Rattle.pieces.specs.Body.{body_begun, body_pushed, entry_passed, front_size, in_registry, is_done, part_passed, part_size, slot_passed, under_way, with_byte}
 use Rattle.pieces.specs.declared.parts.Body.{Body}
 use Rattle.pieces.specs.declared.parts.Entries.{Entries}
 use Rattle.pieces.specs.declared.parts.Slots.{Slots}
 use Rattle.rows.proofs.Lowest.{lowest-on}
 use Rattle.rows.specs.Lowest.{lowest, lowest_on}
-use Rattle.trace.proofs.Passed.{slot-some}
-use Rattle.trace.proofs.SameBytes.{alike-wanted}
+use Rattle.trace.proofs.Passed.{slot_some}
+use Rattle.trace.proofs.SameBytes.{alike_wanted}
 use Rattle.trace.specs.Layout.{header_of, header_size}
 use Rattle.trace.specs.Registry.{is_wanted_at}
 use Rattle.trace.specs.Slots.{event_id_at, is_used_at}
@@ -62,15 +62,15 @@ read_held false = omega arith
 
 -- what those that came whole have shown
 pub record Shown (o : Order) (d : List ℕ) (g : Geometry) (e : Entries) (s : Slots) : Type 0 where
-  pub entry-long : read_size true ≤ g.entry_size
-  pub slot-long : read_size false ≤ g.slot_size
-  pub entries-most : e.passed ≤ g.entries
-  pub slots-most : s.passed ≤ g.slots
+  pub entry_long : read_size true ≤ g.entry_size
+  pub slot_long : read_size false ≤ g.slot_size
+  pub entries_most : e.passed ≤ g.entries
+  pub slots_most : s.passed ≤ g.slots
   pub in_order : ltb e.passed g.entries ≡ true → s.passed ≡ 0
-  pub bad-type : e.bad_type ≡ lowest (is_bad_entry d g) e.passed
+  pub bad_type : e.bad_type ≡ lowest (is_bad_entry d g) e.passed
   pub unused : s.unused ≡ lowest (λ i. not (is_used_slot o d g i)) s.passed
   pub behind : s.behind ≡ lowest (is_used_behind o d g) s.passed
-  pub no-id : s.no_id ≡ lowest (has_no_id o d g) s.passed
+  pub no_id : s.no_id ≡ lowest (has_no_id o d g) s.passed
 
 -- where the part under way starts
 abbrev pub part_place : Body → ℕ
@@ -80,12 +80,12 @@ module _ (o : Order) (d : List ℕ) (b : Body) (shown : Shown o d b.geometry b.e
   pub entry_here : in_registry b ≡ true → part_place b ≡ entry_place b.geometry b.entries.passed
   entry_here registry = rw (shown.in_order registry, zero-mul, add-zero)
 
-  pub slot-here : in_registry b ≡ false → part_place b ≡ slot_place b.geometry b.slots.passed
-  slot-here past =
+  pub slot_here : in_registry b ≡ false → part_place b ≡ slot_place b.geometry b.slots.passed
+  slot_here past =
       ap (λ (e : ℕ). entry_place b.geometry e + b.slots.passed * b.geometry.slot_size)
       {x = b.entries.passed}
       {y = b.geometry.entries}
-      (omega (arith, shown.entries-most, ltb-false b.entries.passed b.geometry.entries past))
+      (omega (arith, shown.entries_most, ltb-false b.entries.passed b.geometry.entries past))
 
 -- after the first n bytes
 pub record After (o : Order) (d : List ℕ) (b : Body) (n : ℕ) : Type 0 where
@@ -96,29 +96,29 @@ pub record After (o : Order) (d : List ℕ) (b : Body) (n : ℕ) : Type 0 where
   pub held : is_done b ≡ false → (k : ℕ) → k < b.came → k < front_size → get_or b.front k 0 ≡ get_or d (part_place b + k) 0
 
 -- a part is at least as long as what is read of it
-part-long : (g : Geometry) → read_size true ≤ g.entry_size → read_size false ≤ g.slot_size → (entry : Bool)
+part_long : (g : Geometry) → read_size true ≤ g.entry_size → read_size false ≤ g.slot_size → (entry : Bool)
     → (1 ≤ read_size entry) × (read_size entry ≤ cond entry g.entry_size g.slot_size)
-part-long g long-entry long-slot true = (omega arith, long-entry)
-part-long g long-entry long-slot false = (omega arith, long-slot)
+part_long g long-entry long-slot true = (omega arith, long-entry)
+part_long g long-entry long-slot false = (omega arith, long-slot)
 
 -- behind a header, before any byte
 pub none_after : (o : Order) (d header : List ℕ) → After o d (body_begun header) header_size
 unfolding body_begun lowest
 none_after o d header = record {
   shown = record {
-    entry-long = omega arith;
-    slot-long = omega (arith, slot-some (header_of header));
-    entries-most = omega arith;
-    slots-most = omega arith;
+    entry_long = omega arith;
+    slot_long = omega (arith, slot_some (header_of header));
+    entries_most = omega arith;
+    slots_most = omega arith;
     in_order = λ registry. refl;
-    bad-type = refl;
+    bad_type = refl;
     unused = refl;
     behind = refl;
-    no-id = refl;
+    no_id = refl;
   };
   past = rw (zero-mul, zero-mul) (omega arith);
   room = refl;
-  under-way = λ more. (rw (zero-mul, zero-mul) refl, omega (arith, part-long (body_begun header).geometry (omega arith) (omega (arith, slot-some (header_of header))) (in_registry (body_begun header))));
+  under-way = λ more. (rw (zero-mul, zero-mul) refl, omega (arith, part_long (body_begun header).geometry (omega arith) (omega (arith, slot_some (header_of header))) (in_registry (body_begun header))));
   held = λ more k below. absurd (omega arith);
 }
 
@@ -127,10 +127,10 @@ module _ (o : Order) (d : List ℕ) (b : Body) (n : ℕ) (after : After o d b n)
   shown = after.shown
 
   long : (entry : Bool) → (1 ≤ read_size entry) × (read_size entry ≤ cond entry b.geometry.entry_size b.geometry.slot_size)
-  long = part-long b.geometry shown.entry-long shown.slot-long
+  long = part_long b.geometry shown.entry_long shown.slot_long
 
-  nothing-more : is_done b ≡ true → After o d b (n + 1)
-  nothing-more done = record {
+  nothing_more : is_done b ≡ true → After o d b (n + 1)
+  nothing_more done = record {
     shown = shown;
     past = omega (arith, after.past);
     room = after.room;
@@ -162,11 +162,11 @@ module _ (o : Order) (d : List ℕ) (b : Body) (n : ℕ) (after : After o d b n)
 
     -- the part is whole, and its first bytes are those of the dump from its place on
     module _ (whole : b.came + 1 ≡ part_size b) where
-      part-ends : part_place b + part_size b ≡ n + 1
-      part-ends = omega (arith, (after.under-way more).0)
+      part_ends : part_place b + part_size b ≡ n + 1
+      part_ends = omega (arith, (after.under-way more).0)
 
-      front-held : (place at k : ℕ) → part_place b ≡ place → at + k < read_size (in_registry b) → get_or front (0 + at + k) 0 ≡ get_or d (place + at + k) 0
-      front-held place at k here short =
+      front_held : (place at k : ℕ) → part_place b ≡ place → at + k < read_size (in_registry b) → get_or front (0 + at + k) 0 ≡ get_or d (place + at + k) 0
+      front_held place at k here short =
           ap (λ (i : ℕ). get_or front i 0) {x = 0 + at + k} {y = at + k} (omega arith)
           ∙ held_on (at + k) (omega (arith, long (in_registry b))) (omega (arith, read_held (in_registry b)))
           ∙ ap (λ (i : ℕ). get_or d i 0) {x = part_place b + (at + k)} {y = place + at + k} (omega arith)
@@ -176,37 +176,37 @@ module _ (o : Order) (d : List ℕ) (b : Body) (n : ℕ) (after : After o d b n)
         abbrev entry_after : Body
         entry_after = record { geometry = b.geometry; front = replicate front_size 0; came = 0; entries = entry_passed b.entries front; slots = b.slots }
 
-        same-entry : is_wanted_at BadType Little front 0 ≡ is_bad_entry d b.geometry b.entries.passed
-        same-entry =
-            alike-wanted BadType Little d (entry_place b.geometry b.entries.passed) front 0
-            (λ k below aside. rw (add-zero (entry_place b.geometry b.entries.passed)) at (front-held (entry_place b.geometry b.entries.passed) 0 k (entry_here o d b shown registry) (rw registry (omega arith))))
+        same_entry : is_wanted_at BadType Little front 0 ≡ is_bad_entry d b.geometry b.entries.passed
+        same_entry =
+            alike_wanted BadType Little d (entry_place b.geometry b.entries.passed) front 0
+            (λ k below aside. rw (add-zero (entry_place b.geometry b.entries.passed)) at (front_held (entry_place b.geometry b.entries.passed) 0 k (entry_here o d b shown registry) (rw registry (omega arith))))
 
-        entry-ends : part_place entry_after ≡ n + 1
+        entry_ends : part_place entry_after ≡ n + 1
         unfolding entry_passed
-        entry-ends = omega (arith, step-more b.entries.passed b.geometry.entry_size, rw registry at part-ends)
+        entry_ends = omega (arith, step_more b.entries.passed b.geometry.entry_size, rw registry at part_ends)
 
-        entry-shown : Shown o d b.geometry entry_after.entries b.slots
+        entry_shown : Shown o d b.geometry entry_after.entries b.slots
         unfolding entry_passed
-        entry-shown = record {
-          entry-long = shown.entry-long;
-          slot-long = shown.slot-long;
-          entries-most = omega (arith, ltb-true b.entries.passed b.geometry.entries registry);
-          slots-most = shown.slots-most;
+        entry_shown = record {
+          entry_long = shown.entry_long;
+          slot_long = shown.slot_long;
+          entries_most = omega (arith, ltb-true b.entries.passed b.geometry.entries registry);
+          slots_most = shown.slots_most;
           in_order = λ still. shown.in_order registry;
-          bad-type =
-              ap₂ (λ (found : ℕ) (hit : Bool). lowest_on found b.entries.passed hit) shown.bad-type same-entry
+          bad_type =
+              ap₂ (λ (found : ℕ) (hit : Bool). lowest_on found b.entries.passed hit) shown.bad_type same_entry
               ∙ lowest-on (is_bad_entry d b.geometry) b.entries.passed;
           unused = shown.unused;
           behind = shown.behind;
-          no-id = shown.no-id;
+          no_id = shown.no_id;
         }
 
         pub entry-after : After o d entry_after (n + 1)
         entry-after = record {
-          shown = entry-shown;
-          past = omega (arith, entry-ends);
+          shown = entry_shown;
+          past = omega (arith, entry_ends);
           room = refl;
-          under-way = λ still. (omega (arith, entry-ends), omega (arith, long (in_registry entry_after)));
+          under-way = λ still. (omega (arith, entry_ends), omega (arith, long (in_registry entry_after)));
           held = λ still k below. absurd (omega arith);
         }
 
@@ -220,67 +220,67 @@ module _ (o : Order) (d : List ℕ) (b : Body) (n : ℕ) (after : After o d b n)
 
         same_word : (at : ℕ) → at + 4 ≤ read_size false → eqb (word_at Little front (0 + at)) 0 ≡ eqb (word_at o d (place + at)) 0
         same_word at within =
-            ap (λ (word : ℕ). eqb word 0) (same_number Little 4 front d (0 + at) (place + at) (λ k below. front-held place at k (slot-here o d b shown slots) (rw slots (omega arith))))
+            ap (λ (word : ℕ). eqb word 0) (same_number Little 4 front d (0 + at) (place + at) (λ k below. front_held place at k (slot_here o d b shown slots) (rw slots (omega arith))))
             ∙ zero_word o d (place + at)
 
-        same-used : is_used_at Little front 0 ≡ is_used_at o d place
-        same-used = ap not (rw (add-zero place) at (same_word 0 (omega arith)))
+        same_used : is_used_at Little front 0 ≡ is_used_at o d place
+        same_used = ap not (rw (add-zero place) at (same_word 0 (omega arith)))
 
-        slot-ends : part_place slot_after ≡ n + 1
+        slot_ends : part_place slot_after ≡ n + 1
         unfolding slot_passed
-        slot-ends = omega (arith, step-more b.slots.passed b.geometry.slot_size, rw slots at part-ends)
+        slot_ends = omega (arith, step_more b.slots.passed b.geometry.slot_size, rw slots at part_ends)
 
         -- a search among the slots goes on
         on : (t : ℕ → Bool) {found : ℕ} {hit : Bool} → found ≡ lowest t b.slots.passed → hit ≡ t b.slots.passed
             → lowest_on found b.slots.passed hit ≡ lowest t (b.slots.passed + 1)
         on t so same = ap₂ (λ (found : ℕ) (hit : Bool). lowest_on found b.slots.passed hit) so same ∙ lowest-on t b.slots.passed
 
-        slot-shown : Shown o d b.geometry b.entries slot_after.slots
+        slot_shown : Shown o d b.geometry b.entries slot_after.slots
         unfolding slot_passed
-        slot-shown = record {
-          entry-long = shown.entry-long;
-          slot-long = shown.slot-long;
-          entries-most = shown.entries-most;
-          slots-most = omega (arith, slots-left b more slots);
+        slot_shown = record {
+          entry_long = shown.entry_long;
+          slot_long = shown.slot_long;
+          entries_most = shown.entries_most;
+          slots_most = omega (arith, slots_left b more slots);
           in_order = λ still. absurd (true≢false (sym still ∙ slots));
-          bad-type = shown.bad-type;
-          unused = on (λ i. not (is_used_slot o d b.geometry i)) shown.unused (ap not same-used);
-          behind = on (is_used_behind o d b.geometry) shown.behind (ap (λ (used : Bool). used && ltb b.geometry.current b.slots.passed) same-used);
-          no-id = on (has_no_id o d b.geometry) shown.no-id (ap₂ ◌&&◌ same-used (same_word 8 (omega arith)));
+          bad_type = shown.bad_type;
+          unused = on (λ i. not (is_used_slot o d b.geometry i)) shown.unused (ap not same_used);
+          behind = on (is_used_behind o d b.geometry) shown.behind (ap (λ (used : Bool). used && ltb b.geometry.current b.slots.passed) same_used);
+          no_id = on (has_no_id o d b.geometry) shown.no_id (ap₂ ◌&&◌ same_used (same_word 8 (omega arith)));
         }
 
         pub slot-after : After o d slot_after (n + 1)
         slot-after = record {
-          shown = slot-shown;
-          past = omega (arith, slot-ends);
+          shown = slot_shown;
+          past = omega (arith, slot_ends);
           room = refl;
-          under-way = λ still. (omega (arith, slot-ends), omega (arith, long (in_registry slot_after)));
+          under-way = λ still. (omega (arith, slot_ends), omega (arith, long (in_registry slot_after)));
           held = λ still k below. absurd (omega arith);
         }
 
-      part-after : (entry : Bool) → in_registry b ≡ entry → After o d (part_passed b front) (n + 1)
+      part_after : (entry : Bool) → in_registry b ≡ entry → After o d (part_passed b front) (n + 1)
       unfolding part_passed
-      part-after true registry = rw registry (entry-after registry)
-      part-after false slots = rw slots (slot-after slots)
+      part_after true registry = rw registry (entry-after registry)
+      part_after false slots = rw slots (slot-after slots)
 
-    byte-held : Dec (b.came + 1 < part_size b) → After o d (with_byte b front) (n + 1)
-    byte-held (yes room) = rw (lt-ltb (b.came + 1) (part_size b) room) (one_more room)
-    byte-held (no full) =
-        rw (le-ltb (b.came + 1) (part_size b) (omega arith)) (part-after (omega (arith, (after.under-way more).1)) (in_registry b) refl)
+    byte_held : Dec (b.came + 1 < part_size b) → After o d (with_byte b front) (n + 1)
+    byte_held (yes room) = rw (lt-ltb (b.came + 1) (part_size b) room) (one_more room)
+    byte_held (no full) =
+        rw (le-ltb (b.came + 1) (part_size b) (omega arith)) (part_after (omega (arith, (after.under-way more).1)) (in_registry b) refl)
 
   -- one byte more
-  pub byte-after : After o d (body_pushed b (get_or d n 0)) (n + 1)
+  pub byte_after : After o d (body_pushed b (get_or d n 0)) (n + 1)
   unfolding body_pushed
-  byte-after = by (is_done b) refl
+  byte_after = by (is_done b) refl
     where
       by : (done : Bool) → is_done b ≡ done → After o d (body_pushed b (get_or d n 0)) (n + 1)
-      by true done = rw done (nothing-more done)
-      by false more = rw more (byte-held more (dec_lt (b.came + 1) (part_size b)))
+      by true done = rw done (nothing_more done)
+      by false more = rw more (byte_held more (dec_lt (b.came + 1) (part_size b)))
 
 -- which has the same geometry
-pub geometry-stays : (b : Body) (byte : ℕ) → (body_pushed b byte).geometry ≡ b.geometry
+pub geometry_stays : (b : Body) (byte : ℕ) → (body_pushed b byte).geometry ≡ b.geometry
 unfolding body_pushed part_passed
-geometry-stays b byte = by (is_done b) (ltb (b.came + 1) (part_size b))
+geometry_stays b byte = by (is_done b) (ltb (b.came + 1) (part_size b))
   where
     by : (done short : Bool)
         → (cond done b (cond short (under_way b (set b.front b.came byte) (b.came + 1)) (part_passed b (set b.front b.came byte)))).geometry ≡ b.geometry

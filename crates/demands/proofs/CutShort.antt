@@ -7,13 +7,13 @@ use mathlib.Core.Path.{◌≡◌, refl, sym, ap, ◌∙◌}
 use native.Mathlib.Omega.{arith}
 use lib.Dec.{ltb}
 use borrow.Author.Tests.{eq-eqb, le-ltb, lt-ltb, ltb-false, ltb-true}
-use Rattle.rows.proofs.Numbered.{by_number, front-passed, front-without}
-use Rattle.rows.proofs.Rows.{among, kept-too, one_kept, passed-before, then-broken, then-rest, unbroken}
+use Rattle.rows.proofs.Numbered.{by_number, front_passed, front_without}
+use Rattle.rows.proofs.Rows.{among, kept_too, one_kept, passed_before, then_broken, then_rest, unbroken}
 use Rattle.rows.specs.Rows.{Accepted, Row, first_broken}
 use Rattle.rows.specs.declared.Refusal.{Refusal}
 use Rattle.rows.specs.declared.Verdict.TheVariants.{Passed, Refused}
-use Rattle.trace.proofs.Opened.{open-rows}
-use Rattle.trace.proofs.Passed.{buffer-sized, dump-long, dump-short, entries-end, keeps, one_pointer, registry-sized, registry-within, slots_end, start_rows}
+use Rattle.trace.proofs.Opened.{open_rows}
+use Rattle.trace.proofs.Passed.{buffer_sized, dump_long, dump_short, entries_end, keeps, one_pointer, registry_sized, registry_within, slots_end, start_rows}
 use Rattle.trace.specs.Layout.{buffer_end, buffer_start, entry_count, entry_size, header_size, most_bytes, registry_end, slot_count, slot_size}
 use Rattle.trace.specs.Table.{before_ends, header_rows, layout_rows, row1, row7, row8, row9, row10, row26}
 use Rattle.trace.specs.declared.Header.{Header}
@@ -21,72 +21,72 @@ use Rattle.demands.specs.Cut.{CutShort, MissedEnd, Missing, RegistryThere, Right
 use Rattle.demands.specs.Refusals.{given_at}
 
 -- a length without a whole header gets 1
-pub header-missed : (h : Header) (n : ℕ) → n < header_size → first_broken (header_rows h n) ≡ Refused (given_at 1 0)
+pub header_missed : (h : Header) (n : ℕ) → n < header_size → first_broken (header_rows h n) ≡ Refused (given_at 1 0)
 unfolding first_broken row1
-header-missed h n below = rw (lt-ltb n header_size below)
+header_missed h n below = rw (lt-ltb n header_size below)
 
 -- 1 to 6 say the same of all lengths that have a header and are not too long
-begun-same : (h : Header) (m n : ℕ) → header_size ≤ m → m ≤ most_bytes → header_size ≤ n → n ≤ most_bytes → first_broken (before_ends h n) ≡ first_broken (before_ends h m)
-unfolding first_broken open-rows
-begun-same h m n long short other-long other-short = simp le-ltb
+begun_same : (h : Header) (m n : ℕ) → header_size ≤ m → m ≤ most_bytes → header_size ≤ n → n ≤ most_bytes → first_broken (before_ends h n) ≡ first_broken (before_ends h m)
+unfolding first_broken open_rows
+begun_same h m n long short other-long other-short = simp le-ltb
 
-pub begun-at : (h : Header) (m : ℕ) → Accepted (start_rows h m) → (n : ℕ) → header_size ≤ n → n ≤ most_bytes → Accepted (before_ends h n)
-begun-at h m passed n long short =
-    begun-same h m n (dump-long h m [] passed) (dump-short h m [] passed) long short ∙ passed-before (before_ends h m) (row7 h ∷ []) passed
+pub begun_at : (h : Header) (m : ℕ) → Accepted (start_rows h m) → (n : ℕ) → header_size ≤ n → n ≤ most_bytes → Accepted (before_ends h n)
+begun_at h m passed n long short =
+    begun_same h m n (dump_long h m [] passed) (dump_short h m [] passed) long short ∙ passed_before (before_ends h m) (row7 h ∷ []) passed
 
 -- ends that have passed are right
-pub registry-right : (h : Header) (n : ℕ) (more : List Row) → first_broken (start_rows h n ++ more) ≡ Passed → RightRegistry h
-registry-right h n more passed = record { parts = entry_count h; whole = entries-end h n more passed; most = (registry-sized h n more passed).1 }
+pub registry_right : (h : Header) (n : ℕ) (more : List Row) → first_broken (start_rows h n ++ more) ≡ Passed → RightRegistry h
+registry_right h n more passed = record { parts = entry_count h; whole = entries_end h n more passed; most = (registry_sized h n more passed).1 }
 
 module _ (h : Header) (n : ℕ) (more : List Row) (passed : first_broken (layout_rows h n ++ more) ≡ Passed) where
-  registry-there : RegistryThere h n
-  registry-there = (registry-right h n _ passed, registry-within h n more passed, one_pointer h n more passed)
+  registry_there : RegistryThere h n
+  registry_there = (registry_right h n _ passed, registry_within h n more passed, one_pointer h n more passed)
 
-  pub buffer-right : RightBuffer h
-  buffer-right = let sized = buffer-sized h n more passed in (sized.0, record { parts = slot_count h; whole = slots_end h n more passed; most = sized.1 })
+  pub buffer_right : RightBuffer h
+  buffer_right = let sized = buffer_sized h n more passed in (sized.0, record { parts = slot_count h; whole = slots_end h n more passed; most = sized.1 })
 
 module _ (h : Header) (n : ℕ) where
   -- and those that are right pass
-  start-passed : Accepted (before_ends h n) → RightRegistry h → Accepted (start_rows h n)
+  start_passed : Accepted (before_ends h n) → RightRegistry h → Accepted (start_rows h n)
   unfolding row7
-  start-passed begun right =
-      sym (then-rest (before_ends h n) (row7 h ∷ []) begun)
+  start_passed begun right =
+      sym (then_rest (before_ends h n) (row7 h ∷ []) begun)
       ∙ one_kept (row7 h)
       (keeps (suc (registry_end h)) header_size (suc most_bytes) (registry_end h) (registry_end h - header_size) right.parts (entry_size h) (omega (arith, right.whole, right.most)))
 
   abbrev there_rows : List Row
   there_rows = start_rows h n ++ (row26 (registry_end h) n ∷ row8 h ∷ [])
 
-  there-passed : Accepted (before_ends h n) → RegistryThere h n → Accepted there_rows
+  there_passed : Accepted (before_ends h n) → RegistryThere h n → Accepted there_rows
   unfolding row8 row26
-  there-passed begun there =
-      sym (then-rest (start_rows h n) (row26 (registry_end h) n ∷ row8 h ∷ []) (start-passed begun there.0))
-      ∙ kept-too (row26 (registry_end h) n) _ (le-ltb n (registry_end h) there.1) (one_kept (row8 h) (rw (eq-eqb _ _ there.2)))
+  there_passed begun there =
+      sym (then_rest (start_rows h n) (row26 (registry_end h) n ∷ row8 h ∷ []) (start_passed begun there.0))
+      ∙ kept_too (row26 (registry_end h) n) _ (le-ltb n (registry_end h) there.1) (one_kept (row8 h) (rw (eq-eqb _ _ there.2)))
 
-  pub layout-passed : Accepted (before_ends h n) → RegistryThere h n → RightBuffer h → Accepted (layout_rows h n)
+  pub layout_passed : Accepted (before_ends h n) → RegistryThere h n → RightBuffer h → Accepted (layout_rows h n)
   unfolding row9
-  layout-passed begun there (some, right) =
-      sym (then-rest there_rows (row9 h ∷ []) (there-passed begun there))
+  layout_passed begun there (some, right) =
+      sym (then_rest there_rows (row9 h ∷ []) (there_passed begun there))
       ∙ one_kept (row9 h)
       (keeps (buffer_end h) (buffer_start h) (suc most_bytes) (buffer_end h) (buffer_end h - buffer_start h) right.parts (slot_size h)
       (omega (arith, some, right.whole, right.most)))
 
   -- while one that is not is refused
-  pub registry-nonsense : Accepted (before_ends h n) → (RightRegistry h → ⊥) → first_broken (header_rows h n) ≡ Refused (given_at 7 0)
+  pub registry_nonsense : Accepted (before_ends h n) → (RightRegistry h → ⊥) → first_broken (header_rows h n) ≡ Refused (given_at 7 0)
   unfolding row7
-  registry-nonsense begun wrong = by (row7 h).broken refl
+  registry_nonsense begun wrong = by (row7 h).broken refl
     where
       by : (b : Bool) → (row7 h).broken ≡ b → first_broken (header_rows h n) ≡ Refused (given_at 7 0)
-      by true broken = then-broken (before_ends h n) (row7 h) _ begun broken
-      by false kept = absurd (wrong (registry-right h n [] (sym (then-rest (before_ends h n) (row7 h ∷ []) begun) ∙ one_kept (row7 h) kept)))
+      by true broken = then_broken (before_ends h n) (row7 h) _ begun broken
+      by false kept = absurd (wrong (registry_right h n [] (sym (then_rest (before_ends h n) (row7 h ∷ []) begun) ∙ one_kept (row7 h) kept)))
 
-  pub buffer-nonsense : Accepted (before_ends h n) → RegistryThere h n → (RightBuffer h → ⊥) → first_broken (header_rows h n) ≡ Refused (given_at 9 0)
+  pub buffer_nonsense : Accepted (before_ends h n) → RegistryThere h n → (RightBuffer h → ⊥) → first_broken (header_rows h n) ≡ Refused (given_at 9 0)
   unfolding row9
-  buffer-nonsense begun there wrong = by (row9 h).broken refl
+  buffer_nonsense begun there wrong = by (row9 h).broken refl
     where
       by : (b : Bool) → (row9 h).broken ≡ b → first_broken (header_rows h n) ≡ Refused (given_at 9 0)
-      by true broken = then-broken there_rows (row9 h) _ (there-passed begun there) broken
-      by false kept = absurd (wrong (buffer-right h n [] (sym (then-rest there_rows (row9 h ∷ []) (there-passed begun there)) ∙ one_kept (row9 h) kept)))
+      by true broken = then_broken there_rows (row9 h) _ (there_passed begun there) broken
+      by false kept = absurd (wrong (buffer_right h n [] (sym (then_rest there_rows (row9 h ∷ []) (there_passed begun there)) ∙ one_kept (row9 h) kept)))
 
 module _ (h : Header) (n k : ℕ) where
   -- 26 is given where bytes are missing
@@ -94,25 +94,25 @@ module _ (h : Header) (n k : ℕ) where
   unfolding row26
   given-at rows more end passed missing =
       let place : end - n ≡ k = omega (arith, missing) in
-      then-broken rows (row26 end n) more passed (lt-ltb n end (omega (arith, missing))) ∙ ap (λ (j : ℕ). Refused (given_at 26 j)) place
+      then_broken rows (row26 end n) more passed (lt-ltb n end (omega (arith, missing))) ∙ ap (λ (j : ℕ). Refused (given_at 26 j)) place
 
-  pub short-given : CutShort h n k → first_broken (header_rows h n) ≡ Refused (given_at 26 k)
-  short-given cut = by cut.1
+  pub short_given : CutShort h n k → first_broken (header_rows h n) ≡ Refused (given_at 26 k)
+  short_given cut = by cut.1
     where
       by : MissedEnd h n k → first_broken (header_rows h n) ≡ Refused (given_at 26 k)
-      by (inl (right, missing)) = given-at (start_rows h n) _ (registry_end h) (start-passed h n cut.0 right) missing
-      by (inr (there, right, missing)) = given-at (layout_rows h n) _ (buffer_end h) (layout-passed h n cut.0 there right) missing
+      by (inl (right, missing)) = given-at (start_rows h n) _ (registry_end h) (start_passed h n cut.0 right) missing
+      by (inr (there, right, missing)) = given-at (layout_rows h n) _ (buffer_end h) (layout_passed h n cut.0 there right) missing
 
   -- and where it is given, it says which end is missed, and by how much
-  pub given-short : first_broken (header_rows h n) ≡ Refused (given_at 26 k) → CutShort h n k
-  unfolding first_broken open-rows
-  given-short refused = (
-    passed-before (before_ends h n) (row7 h ∷ []) start,
+  pub given_short : first_broken (header_rows h n) ≡ Refused (given_at 26 k) → CutShort h n k
+  unfolding first_broken open_rows
+  given_short refused = (
+    passed_before (before_ends h n) (row7 h ∷ []) start,
     by (ltb n (registry_end h)) (ltb n (buffer_end h)) refl refl (by_number (header_rows h n) (given_at 26 k) refused),
   )
     where
       start : Accepted (start_rows h n)
-      start = front-without (start_rows h n) (row26 (registry_end h) n ∷ row8 h ∷ row9 h ∷ row26 (buffer_end h) n ∷ row10 h ∷ []) (given_at 26 k) refused refl
+      start = front_without (start_rows h n) (row26 (registry_end h) n ∷ row8 h ∷ row9 h ∷ row26 (buffer_end h) n ∷ row10 h ∷ []) (given_at 26 k) refused refl
 
       place : {j : ℕ} → Refused (given_at 26 j) ≡ Refused (given_at 26 k) → j ≡ k
       place {j} said = let same : given_at 26 j ≡ given_at 26 k = cc in ap (λ (f : Refusal). f.place) same
@@ -120,24 +120,24 @@ module _ (h : Header) (n k : ℕ) where
       by : (r b : Bool) → ltb n (registry_end h) ≡ r → ltb n (buffer_end h) ≡ b
           → cond r (Refused (given_at 26 (registry_end h - n))) (cond b (Refused (given_at 26 (buffer_end h - n))) Passed) ≡ Refused (given_at 26 k)
           → MissedEnd h n k
-      by true b before behind said = let below = ltb-true n (registry_end h) before in inl (registry-right h n [] start, omega (arith, place said))
+      by true b before behind said = let below = ltb-true n (registry_end h) before in inl (registry_right h n [] start, omega (arith, place said))
       by false true before behind said =
           let below = ltb-true n (buffer_end h) behind in
-          let layout = front-passed (layout_rows h n) (row26 (buffer_end h) n ∷ row10 h ∷ []) (given_at 26 k) refused (one_kept (row26 (registry_end h) n) before) in
-          inr (registry-there h n [] layout, buffer-right h n [] layout, omega (arith, place said))
+          let layout = front_passed (layout_rows h n) (row26 (buffer_end h) n ∷ row10 h ∷ []) (given_at 26 k) refused (one_kept (row26 (registry_end h) n) before) in
+          inr (registry_there h n [] layout, buffer_right h n [] layout, omega (arith, place said))
       by false false before behind said = let clash : true ≡ false = cc in absurd (true≢false clash)
 
   -- it has its header
-  pub cut-long : CutShort h n k → header_size ≤ n
+  pub cut_long : CutShort h n k → header_size ≤ n
   unfolding row1
-  cut-long cut = ltb-false n header_size (unbroken cut.0 (row1 n) (search among depth 20))
+  cut_long cut = ltb-false n header_size (unbroken cut.0 (row1 n) (search among depth 20))
 
   -- with more bytes, but not so many, it is cut by the others
-  pub still-cut : CutShort h n k → (m : ℕ) → n ≤ m → m < n + k → CutShort h m (n + k - m)
-  still-cut cut m from below = by cut.1
+  pub still_cut : CutShort h n k → (m : ℕ) → n ≤ m → m < n + k → CutShort h m (n + k - m)
+  still_cut cut m from below = by cut.1
     where
       longer : m ≤ most_bytes → Accepted (before_ends h m)
-      longer short = begun-same h n m (cut-long cut) (omega arith) (omega (arith, cut-long cut)) short ∙ cut.0
+      longer short = begun_same h n m (cut_long cut) (omega arith) (omega (arith, cut_long cut)) short ∙ cut.0
 
       by : MissedEnd h n k → CutShort h m (n + k - m)
       by (inl (right, missing)) = (longer (omega (arith, missing, right.most)), inl (right, omega (arith, missing)))

@@ -10,7 +10,7 @@ use Rattle.events.specs.declared.Shown.TheVariants.{Given}
 use Rattle.naming.specs.Records.{file_rows}
 use Rattle.rows.proofs.Rows.{here, unbroken}
 use Rattle.rows.specs.Rows.{first_broken}
-use Rattle.trace.proofs.Checks.{check-events, check-header}
+use Rattle.trace.proofs.Checks.{check_events, check_header}
 use Rattle.trace.specs.Layout.{header_of, slot_at}
 use Rattle.trace.specs.Ring.{slot_of}
 use Rattle.trace.specs.Slots.{event_count, slot_in}
@@ -21,29 +21,29 @@ use Rattle.writing.specs.declared.Outcome.TheVariants.{Done}
 use Rattle.demands.specs.Gives.{Gives}
 use Rattle.demands.proofs.Answers.{done-is, given_is, passed-behind}
 
-event-gives : (file : Option (List ℕ)) (s : List ℕ) (position : ℕ) (e : Event) → event_of file s position ≡ Given e
+event_gives : (file : Option (List ℕ)) (s : List ℕ) (position : ℕ) (e : Event) → event_of file s position ≡ Given e
     → let h = header_of s in
     (position < event_count s h) × (e.slot ≡ slot_in h.order s (slot_at h (slot_of s h position))) × (e.ticks ≡ ticks_of s h position)
 unfolding event_of event_in row25
-event-gives file s position e is =
+event_gives file s position e is =
     let (passed, same) = given_is (first_broken (event_rows file s (header_of s) position)) (event_at file s (header_of s) position) e is in
     let last = row25 position (event_count s (header_of s)) in
     (leb-false _ _ (unbroken (passed-behind (dump_rows s (header_of s) ++ file_rows file) (last ∷ []) passed) last here), ap (λ (e : Event). e.slot) same, ap (λ (e : Event). e.ticks) same)
 
 -- a call that writes gives what it says
-change-gives : (c : Change) (n : ℕ) → said c ≡ Done n → n ≡ c.gives
-change-gives c n is = (done-is (first_broken c.rows) c.gives n is).1
+change_gives : (c : Change) (n : ℕ) → said c ≡ Done n → n ≡ c.gives
+change_gives c n is = (done-is (first_broken c.rows) c.gives n is).1
 
 pub gives : Gives
 unfolding filing formatting recording registering removing
 gives = record {
   checking = λ s h n sound.
-      let header = check-header s h n sound in
-      (header, rw header (check-events s h n sound));
-  event = event-gives;
-  formatting = λ f s. change-gives (formatting f s);
-  recording = λ slot s. change-gives (recording slot s);
-  registering = λ object name s. change-gives (registering object name s);
-  removing = λ pointer s. change-gives (removing pointer s);
-  filing = λ subject number name offset s. change-gives (filing subject number name offset s);
+      let header = check_header s h n sound in
+      (header, rw header (check_events s h n sound));
+  event = event_gives;
+  formatting = λ f s. change_gives (formatting f s);
+  recording = λ slot s. change_gives (recording slot s);
+  registering = λ object name s. change_gives (registering object name s);
+  removing = λ pointer s. change_gives (removing pointer s);
+  filing = λ subject number name offset s. change_gives (filing subject number name offset s);
 }

@@ -18,17 +18,17 @@ use Rattle.trace.specs.Layout.{header_of, current_slot, slot_at, slot_count}
 use Rattle.trace.specs.Slots.{slot_in}
 use Rattle.trace.specs.declared.Checked.TheVariants.{Sound}
 use Rattle.words.specs.Each.{Each}
-use Rattle.writing.proofs.Moved.{moved-size}
+use Rattle.writing.proofs.Moved.{moved_size}
 use Rattle.writing.specs.Keeping.{SameEvents}
 use Rattle.writing.specs.Writing.{altered, outcome_by, cut, formatting, next_slot, recording, registering, removing}
 use Rattle.demands.specs.History.{Call, DoesNotFormat, NoneFormats, Typed, Write, accepted_writes, after, format, given, if_accepted, left_by, read, register, remove, write, writes_by}
 use Rattle.demands.specs.Writings.{Recorded}
 use Rattle.demands.proofs.Answers.{refused-is}
-use Rattle.demands.proofs.Writings.{recording-leaves, registering-leaves, removing-leaves}
+use Rattle.demands.proofs.Writings.{recording_leaves, registering_leaves, removing_leaves}
 
 -- one slot on is one more, modulo the number of slots
-next-is : (k n : ℕ) → 0 < n → cond (eqb (suc (k % n)) n) 0 (suc (k % n)) ≡ suc k % n
-next-is k n some = by (eqb (suc (k % n)) n) refl
+next_is : (k n : ℕ) → 0 < n → cond (eqb (suc (k % n)) n) 0 (suc (k % n)) ≡ suc k % n
+next_is k n some = by (eqb (suc (k % n)) n) refl
   where
     step : suc (k % n) % n ≡ suc k % n
     step = ap (λ (i : ℕ). i % n) (omega arith) ∙ mod-add-mod k n 1 ∙ ap (λ (i : ℕ). i % n) (omega arith)
@@ -61,10 +61,10 @@ pub record Holds (n mask : ℕ) (ws : List Write) (t : List ℕ) : Type 0 where
 
 module _ (n mask : ℕ) (some : 0 < n) where
   -- a call that keeps the header and the events
-  events-hold : (ws : List Write) (s t : List ℕ) → header_of t ≡ header_of s → SameEvents s t (header_of s)
+  events_hold : (ws : List Write) (s t : List ℕ) → header_of t ≡ header_of s → SameEvents s t (header_of s)
       → (check_of s ≡ Sound (header_of s) (min (length ws) n) → check_of t ≡ Sound (header_of s) (min (length ws) n))
       → Holds n mask ws s → Holds n mask ws t
-  events-hold ws s t header events sound holds = record {
+  events_hold ws s t header events sound holds = record {
     slots = rw header holds.slots;
     mask_is = rw header holds.mask_is;
     sound = rw header (sound holds.sound);
@@ -74,15 +74,15 @@ module _ (n mask : ℕ) (some : 0 < n) where
 
   -- a write
   module _ (ws : List Write) (w : Write) (s t : List ℕ) (leaves : Recorded (given w) s t (header_of s)) (holds : Holds n mask ws s) where
-    one-longer : length (ws ++ (w ∷ [])) ≡ suc (length ws)
-    one-longer = length-append ws (w ∷ []) ∙ omega arith
+    one_longer : length (ws ++ (w ∷ [])) ≡ suc (length ws)
+    one_longer = length-append ws (w ∷ []) ∙ omega arith
 
     newest : (j : ℕ) → j ≡ length ws → get_or (ws ++ (w ∷ [])) j no_write ≡ w
     newest j last = ap (λ (i : ℕ). get_or (ws ++ (w ∷ [])) i no_write) (last ∙ sym (add-zero (length ws))) ∙ get_or-append-add ws (w ∷ []) 0 no_write
 
-    words-now : (j : ℕ) → j < suc (length ws) → suc (length ws) ≤ j + n
+    words_now : (j : ℕ) → j < suc (length ws) → suc (length ws) ≤ j + n
         → slot_in (header_of s).order t (slot_at (header_of s) (j % n)) ≡ cut (header_of s) (given (get_or (ws ++ (w ∷ [])) j no_write))
-    words-now j below near = by (ℕ_discrete j (length ws))
+    words_now j below near = by (ℕ_discrete j (length ws))
       where
         by : Dec (j ≡ length ws) → slot_in (header_of s).order t (slot_at (header_of s) (j % n)) ≡ cut (header_of s) (given (get_or (ws ++ (w ∷ [])) j no_write))
         by (yes last) = rw (newest j last, last, ← holds.current) leaves.this
@@ -90,46 +90,46 @@ module _ (n mask : ℕ) (some : 0 < n) where
             rw (get_or-append ws (w ∷ []) no_write j (omega arith))
             (leaves.others (j % n) (λ same. apart j (length ws) n (omega arith) (omega arith) (same ∙ holds.current)) ∙ holds.words j (omega arith) (omega arith))
 
-    write-holds : Holds n mask (ws ++ (w ∷ [])) t
+    write_holds : Holds n mask (ws ++ (w ∷ [])) t
     unfolding cut
-    write-holds = record {
-      slots = rw (leaves.header, moved-size (header_of s) (next_slot (header_of s))) holds.slots;
+    write_holds = record {
+      slots = rw (leaves.header, moved_size (header_of s) (next_slot (header_of s))) holds.slots;
       mask_is = rw leaves.header holds.mask_is;
-      sound = leaves.sound (min (length ws) n) holds.sound ∙ ap (Sound (header_of t)) (rw (one-longer, holds.slots) (omega arith));
-      current = leaves.moved ∙ rw (holds.current, holds.slots, one-longer) (next-is (length ws) n some);
-      words = λ j below near. rw (leaves.header, moved-size (header_of s) (next_slot (header_of s))) (words-now j (rw one-longer at below) (rw one-longer at near));
+      sound = leaves.sound (min (length ws) n) holds.sound ∙ ap (Sound (header_of t)) (rw (one_longer, holds.slots) (omega arith));
+      current = leaves.moved ∙ rw (holds.current, holds.slots, one_longer) (next_is (length ws) n some);
+      words = λ j below near. rw (leaves.header, moved_size (header_of s) (next_slot (header_of s))) (words_now j (rw one_longer at below) (rw one_longer at near));
     }
 
   -- any call, accepted or refused
-  call-holds : (c : Call) (ws : List Write) (s : List ℕ) → Typed c → DoesNotFormat c s → Holds n mask ws s
+  call_holds : (c : Call) (ws : List Write) (s : List ℕ) → Typed c → DoesNotFormat c s → Holds n mask ws s
       → Holds n mask (ws ++ writes_by recording c s) (left_by recording c s)
-  call-holds (write w) ws s words none holds = by (first_broken (recording (given w) s).rows) refl
+  call_holds (write w) ws s words none holds = by (first_broken (recording (given w) s).rows) refl
     where
       by : (v : Verdict) → first_broken (recording (given w) s).rows ≡ v
           → Holds n mask (ws ++ if_accepted (outcome_by v (recording (given w) s).gives) w) (altered v (recording (given w) s).leaves s)
       by (Refused f) e = rw append-nil holds
-      by Passed e = write-holds ws w s (recording (given w) s).leaves (rw e at (recording-leaves (given w) s words e)) holds
-  call-holds (register object name) ws s word none holds = rw append-nil (by (first_broken (registering object name s).rows) refl)
+      by Passed e = write_holds ws w s (recording (given w) s).leaves (rw e at (recording_leaves (given w) s words e)) holds
+  call_holds (register object name) ws s word none holds = rw append-nil (by (first_broken (registering object name s).rows) refl)
     where
       by : (v : Verdict) → first_broken (registering object name s).rows ≡ v → Holds n mask ws (altered v (registering object name s).leaves s)
       by (Refused f) e = holds
       by Passed e =
-          let leaves = registering-leaves object name s word e in
-          events-hold ws s (registering object name s).leaves (rw e at leaves.header) (rw e at leaves.events) (rw e at (leaves.sound (min (length ws) n))) holds
-  call-holds (remove pointer) ws s typed none holds = rw append-nil (by (first_broken (removing pointer s).rows) refl)
+          let leaves = registering_leaves object name s word e in
+          events_hold ws s (registering object name s).leaves (rw e at leaves.header) (rw e at leaves.events) (rw e at (leaves.sound (min (length ws) n))) holds
+  call_holds (remove pointer) ws s typed none holds = rw append-nil (by (first_broken (removing pointer s).rows) refl)
     where
       by : (v : Verdict) → first_broken (removing pointer s).rows ≡ v → Holds n mask ws (altered v (removing pointer s).leaves s)
       by (Refused f) e = holds
       by Passed e =
-          let leaves = removing-leaves pointer s e in
-          events-hold ws s (removing pointer s).leaves (rw e at leaves.header) (rw e at leaves.events) (rw e at (leaves.sound (min (length ws) n))) holds
-  call-holds (format f) ws s typed (fault, refused) holds = rw (append-nil, refused-is (first_broken (formatting f s).rows) _ fault refused) holds
-  call-holds (read q) ws s typed none holds = rw append-nil holds
+          let leaves = removing_leaves pointer s e in
+          events_hold ws s (removing pointer s).leaves (rw e at leaves.header) (rw e at leaves.events) (rw e at (leaves.sound (min (length ws) n))) holds
+  call_holds (format f) ws s typed (fault, refused) holds = rw (append-nil, refused-is (first_broken (formatting f s).rows) _ fault refused) holds
+  call_holds (read q) ws s typed none holds = rw append-nil holds
 
   -- so do all calls, one after another
-  pub calls-hold : (cs : List Call) (ws : List Write) (s : List ℕ) → Each Typed cs → NoneFormats recording cs s → Holds n mask ws s
+  pub calls_hold : (cs : List Call) (ws : List Write) (s : List ℕ) → Each Typed cs → NoneFormats recording cs s → Holds n mask ws s
       → Holds n mask (ws ++ accepted_writes recording cs s) (after recording cs s)
-  calls-hold [] ws s typed none holds = rw append-nil holds
-  calls-hold (c ∷ cs) ws s typed none holds =
+  calls_hold [] ws s typed none holds = rw append-nil holds
+  calls_hold (c ∷ cs) ws s typed none holds =
       rw (← append_assoc ws (writes_by recording c s) (accepted_writes recording cs (left_by recording c s)))
-      (calls-hold cs (ws ++ writes_by recording c s) (left_by recording c s) typed.1 none.1 (call-holds c ws s typed.0 none.0 holds))
+      (calls_hold cs (ws ++ writes_by recording c s) (left_by recording c s) typed.1 none.1 (call_holds c ws s typed.0 none.0 holds))

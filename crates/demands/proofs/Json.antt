@@ -60,38 +60,38 @@ braces = enclosed 0x7B 0x7D (refl, refl, refl) (refl, refl, refl)
 abbrev pub Passed : List ℕ → Type 0
 Passed text = (rest : List ℕ) → numbers_read string (text ++ rest) ≡ numbers_read string rest
 
-pub byte-passed : (c : ℕ) → (c ≡ 0x22 → ⊥) → (c ≡ 0x5C → ⊥) → Passed (c ∷ [])
+pub byte_passed : (c : ℕ) → (c ≡ 0x22 → ⊥) → (c ≡ 0x5C → ⊥) → Passed (c ∷ [])
 unfolding numbers_read
-byte-passed c quote slash rest = rw (ne_eqb c 0x22 quote, ne_eqb c 0x5C slash)
+byte_passed c quote slash rest = rw (ne_eqb c 0x22 quote, ne_eqb c 0x5C slash)
 
-hex-passed : (c : ℕ) → IsHexDigit c → Passed (c ∷ [])
-hex-passed c (inl digit) = byte-passed c (omega arith) (omega arith)
-hex-passed c (inr (inl upper)) = byte-passed c (omega arith) (omega arith)
-hex-passed c (inr (inr lower)) = byte-passed c (omega arith) (omega arith)
+hex_passed : (c : ℕ) → IsHexDigit c → Passed (c ∷ [])
+hex_passed c (inl digit) = byte_passed c (omega arith) (omega arith)
+hex_passed c (inr (inl upper)) = byte_passed c (omega arith) (omega arith)
+hex_passed c (inr (inr lower)) = byte_passed c (omega arith) (omega arith)
 
-char-passed : {text : List ℕ} → Char text → Passed text
+char_passed : {text : List ℕ} → Char text → Passed text
 unfolding numbers_read
-char-passed (json.unescaped {c} low high quote slash) rest = byte-passed c quote slash rest
-char-passed (json.escape is) rest = refl
-char-passed (json.escape-hex {a} {b} {c} {d} p q r s) rest =
-    hex-passed a p (b ∷ c ∷ d ∷ rest) ∙ hex-passed b q (c ∷ d ∷ rest) ∙ hex-passed c r (d ∷ rest) ∙ hex-passed d s rest
+char_passed (json.unescaped {c} low high quote slash) rest = byte_passed c quote slash rest
+char_passed (json.escape is) rest = refl
+char_passed (json.escape_hex {a} {b} {c} {d} p q r s) rest =
+    hex_passed a p (b ∷ c ∷ d ∷ rest) ∙ hex_passed b q (c ∷ d ∷ rest) ∙ hex_passed c r (d ∷ rest) ∙ hex_passed d s rest
 
-chars-passed : {text : List ℕ} → Chars text → Passed text
-chars-passed json.no_char rest = refl
-chars-passed (json.chars {one} {more} first others) rest = rw (append_assoc one more rest) (char-passed first (more ++ rest) ∙ chars-passed others rest)
+chars_passed : {text : List ℕ} → Chars text → Passed text
+chars_passed json.no_char rest = refl
+chars_passed (json.chars {one} {more} first others) rest = rw (append_assoc one more rest) (char_passed first (more ++ rest) ∙ chars_passed others rest)
 
 pub quotes : (text : List ℕ) → Passed text → Has (0x22 ∷ text ++ (0x22 ∷ [])) []
 unfolding numbers_read
 quotes text passed = record { read = λ rest ends. rw (append_assoc text (0x22 ∷ []) rest) (passed (0x22 ∷ rest)) }
 
-pub string-has : {text : List ℕ} → Str text → Has text []
-string-has (json.string-of {inside} all) = quotes inside (chars-passed all)
+pub string_has : {text : List ℕ} → Str text → Has text []
+string_has (json.string_of {inside} all) = quotes inside (chars_passed all)
 
-pub literal-has : {text : List ℕ} → Literal text → Has text []
+pub literal_has : {text : List ℕ} → Literal text → Has text []
 unfolding numbers_read
-literal-has json.false = record { read = λ rest ends. refl }
-literal-has json.null = record { read = λ rest ends. refl }
-literal-has json.true = record { read = λ rest ends. refl }
+literal_has json.false = record { read = λ rest ends. refl }
+literal_has json.null = record { read = λ rest ends. refl }
+literal_has json.true = record { read = λ rest ends. refl }
 
 -- a number is all that its first byte begins: each other byte goes on with it
 abbrev GoesOn : ℕ → Type 0
@@ -106,70 +106,70 @@ begins : (c : ℕ) {text : List ℕ} → is_number_start c ≡ true → All Goes
 unfolding numbers_read
 begins c start more = record { read = λ rest ends. rw start (goes_on (c ∷ []) rest more ends) }
 
-digit-goes : (c : ℕ) → IsDigit c → GoesOn c
-digit-goes c is = rw (le-leb 48 c is.0, le-leb c 57 is.1)
+digit_goes : (c : ℕ) → IsDigit c → GoesOn c
+digit_goes c is = rw (le-leb 48 c is.0, le-leb c 57 is.1)
 
-digits-go : {text : List ℕ} → Digits text → All GoesOn text
-digits-go json.no_digit = no_byte
-digits-go (json.digit {c} is more) = byte (digit-goes c is) (digits-go more)
+digits_go : {text : List ℕ} → Digits text → All GoesOn text
+digits_go json.no_digit = no_byte
+digits_go (json.digit {c} is more) = byte (digit_goes c is) (digits_go more)
 
-int-goes : {text : List ℕ} → Int text → All GoesOn text
-int-goes json.zero-alone = byte refl no_byte
-int-goes (json.from_one {c} low high more) = byte (digit-goes c (omega arith)) (digits-go more)
+int_goes : {text : List ℕ} → Int text → All GoesOn text
+int_goes json.zero_alone = byte refl no_byte
+int_goes (json.from_one {c} low high more) = byte (digit_goes c (omega arith)) (digits_go more)
 
-frac-goes : {text : List ℕ} → Frac text → All GoesOn text
-frac-goes json.no-frac = no_byte
-frac-goes (json.frac is more) = byte refl (digits-go (json.digit is more))
+frac_goes : {text : List ℕ} → Frac text → All GoesOn text
+frac_goes json.no_frac = no_byte
+frac_goes (json.frac is more) = byte refl (digits_go (json.digit is more))
 
-sign-goes : {text : List ℕ} → Sign text → All GoesOn text
-sign-goes json.no_sign = no_byte
-sign-goes json.negative = byte refl no_byte
-sign-goes json.plus = byte refl no_byte
+sign_goes : {text : List ℕ} → Sign text → All GoesOn text
+sign_goes json.no_sign = no_byte
+sign_goes json.negative = byte refl no_byte
+sign_goes json.plus = byte refl no_byte
 
-e-goes : (c : ℕ) → (c ≡ 0x65) ⊎ (c ≡ 0x45) → GoesOn c
-e-goes c (inl small) = rw small
-e-goes c (inr large) = rw large
+e_goes : (c : ℕ) → (c ≡ 0x65) ⊎ (c ≡ 0x45) → GoesOn c
+e_goes c (inl small) = rw small
+e_goes c (inr large) = rw large
 
-exp-goes : {text : List ℕ} → Exp text → All GoesOn text
-exp-goes json.no-exp = no_byte
-exp-goes (json.exp {e} mark sign is more) = byte (e-goes e mark) (both (sign-goes sign) (digits-go (json.digit is more)))
+exp_goes : {text : List ℕ} → Exp text → All GoesOn text
+exp_goes json.no_exp = no_byte
+exp_goes (json.exp {e} mark sign is more) = byte (e_goes e mark) (both (sign_goes sign) (digits_go (json.digit is more)))
 
-pub number-has : {text : List ℕ} → Number text → Has text (text ∷ [])
-number-has (json.number_of json.no_minus json.zero-alone f e) = begins 0x30 refl (both (frac-goes f) (exp-goes e))
-number-has (json.number_of json.no_minus (json.from_one {c} low high more) f e) =
-    begins c (rw (le-leb 48 c (omega arith), le-leb c 57 high)) (both (both (digits-go more) (frac-goes f)) (exp-goes e))
-number-has (json.number_of json.minus i f e) = begins 0x2D refl (both (both (int-goes i) (frac-goes f)) (exp-goes e))
+pub number_has : {text : List ℕ} → Number text → Has text (text ∷ [])
+number_has (json.number_of json.no_minus json.zero_alone f e) = begins 0x30 refl (both (frac_goes f) (exp_goes e))
+number_has (json.number_of json.no_minus (json.from_one {c} low high more) f e) =
+    begins c (rw (le-leb 48 c (omega arith), le-leb c 57 high)) (both (both (digits_go more) (frac_goes f)) (exp_goes e))
+number_has (json.number_of json.minus i f e) = begins 0x2D refl (both (both (int_goes i) (frac_goes f)) (exp_goes e))
 
 -- any value
 mutual
   unfolding json_text members_text more_members more_values numbers_in_members numbers_in_value numbers_in_values values_text
 
-  value-has : (v : Value) → Has (json_text v) (numbers_in_value v)
-  value-has (json.literal l) = literal-has l
-  value-has (json.object members) = braces (members-have members)
-  value-has (json.array values) = brackets (values-have values)
-  value-has (json.number n) = number-has n
-  value-has (json.string s) = string-has s
+  value_has : (v : Value) → Has (json_text v) (numbers_in_value v)
+  value_has (json.literal l) = literal_has l
+  value_has (json.object members) = braces (members_have members)
+  value_has (json.array values) = brackets (values_have values)
+  value_has (json.number n) = number_has n
+  value_has (json.string s) = string_has s
 
-  members-have : (ms : Members) → Has (members_text ms) (numbers_in_members ms)
-  members-have json.no_member = empty
-  members-have (json.member s v more) = more-members more (colon (string-has s) (value-has v))
+  members_have : (ms : Members) → Has (members_text ms) (numbers_in_members ms)
+  members_have json.no_member = empty
+  members_have (json.member s v more) = more-members more (colon (string_has s) (value_has v))
 
   more-members : (ms : Members) {text : List ℕ} {found : List (List ℕ)} → Has text found → Has (text ++ more_members ms) (found ++ numbers_in_members ms)
   more-members json.no_member {text} {found} first = rw (append-nil text, append-nil found) first
-  more-members (json.member s v more) first = comma first (more-members more (colon (string-has s) (value-has v)))
+  more-members (json.member s v more) first = comma first (more-members more (colon (string_has s) (value_has v)))
 
-  values-have : (vs : Values) → Has (values_text vs) (numbers_in_values vs)
-  values-have json.no_value = empty
-  values-have (json.value v more) = more-values more (value-has v)
+  values_have : (vs : Values) → Has (values_text vs) (numbers_in_values vs)
+  values_have json.no_value = empty
+  values_have (json.value v more) = more-values more (value_has v)
 
   more-values : (vs : Values) {text : List ℕ} {found : List (List ℕ)} → Has text found → Has (text ++ more_values vs) (found ++ numbers_in_values vs)
   more-values json.no_value {text} {found} first = rw (append-nil text, append-nil found) first
-  more-values (json.value v more) first = comma first (more-values more (value-has v))
+  more-values (json.value v more) first = comma first (more-values more (value_has v))
 
-pub numbers-found : (value : Value) → json_numbers (json_text value) ≡ numbers_in_value value
-numbers-found value = whole (value-has value)
+pub numbers_found : (value : Value) → json_numbers (json_text value) ≡ numbers_in_value value
+numbers_found value = whole (value_has value)
 
-pub numbers-found-first : (value : Value) (more : List ℕ) → json_numbers (json_text value ++ (0x0A ∷ more)) ≡ numbers_in_value value ++ json_numbers more
+pub numbers_found_first : (value : Value) (more : List ℕ) → json_numbers (json_text value ++ (0x0A ∷ more)) ≡ numbers_in_value value ++ json_numbers more
 unfolding numbers_read
-numbers-found-first value more = (value-has value).read (0x0A ∷ more) (λ bytes. refl)
+numbers_found_first value more = (value_has value).read (0x0A ∷ more) (λ bytes. refl)

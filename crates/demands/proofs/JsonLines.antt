@@ -26,45 +26,45 @@ use Rattle.words.specs.Each.{Each}
 use Rattle.words.specs.Words.{AreBytes}
 use Rattle.demands.specs.Json.{json_text, object}
 use Rattle.demands.specs.JsonLines.{Distinct, IsObject, IsTitle, JsonLines, by_text, gone_text, line_members}
-use Rattle.demands.proofs.Json.{numbers-found, numbers-found-first}
-use Rattle.demands.proofs.JsonNumbers.{numbers-are, object-numbers}
-use Rattle.demands.proofs.JsonTexts.{NamedPart, member_of, members, members-are, members-written}
+use Rattle.demands.proofs.Json.{numbers_found, numbers_found_first}
+use Rattle.demands.proofs.JsonNumbers.{numbers_are, object_numbers}
+use Rattle.demands.proofs.JsonTexts.{NamedPart, member_of, members, members_are, members_written}
 use Rattle.demands.proofs.Plain.{line_plain}
 
-context-text : (by : Context) → quoted (context by) ≡ by_text by
+context_text : (by : Context) → quoted (context by) ≡ by_text by
 unfolding quoted context
-context-text Init = refl
-context-text Isr = refl
-context-text Thread = refl
+context_text Init = refl
+context_text Isr = refl
+context_text Thread = refl
 
 gone-text : (gone : Bool) → value_text (truth gone) ≡ gone_text gone
 unfolding value_text
 gone-text true = refl
 gone-text false = refl
 
-parts-named : (l : Line) (event : Option (Option (List ℕ))) (n : Option (List ℕ)) → IsTitle event → IsName n → Each NamedPart (parts l event n)
+parts_named : (l : Line) (event : Option (Option (List ℕ))) (n : Option (List ℕ)) → IsTitle event → IsName n → Each NamedPart (parts l event n)
 unfolding event_parts parts
-parts-named l none n titled is = search
-parts-named l (some title) n titled is = search
+parts_named l none n titled is = search
+parts_named l (some title) n titled is = search
 
 -- the members are the parts', with an event's name and without
 parts_are : (l : Line) (event : Option (Option (List ℕ))) (n : Option (List ℕ)) → map member_of (parts l event n) ≡ line_members l event n
 unfolding event_parts parts value_text
-parts_are l none n = rw (← context-text l.by, ← gone-text l.gone)
-parts_are l (some title) n = rw (← context-text l.by, ← gone-text l.gone)
+parts_are l none n = rw (← context_text l.by, ← gone-text l.gone)
+parts_are l (some title) n = rw (← context_text l.by, ← gone-text l.gone)
 
-line-object : (l : Line) (event : Option (Option (List ℕ))) (n : Option (List ℕ)) → IsTitle event → IsName n → IsObject l event n (line l event n)
+line_object : (l : Line) (event : Option (Option (List ℕ))) (n : Option (List ℕ)) → IsTitle event → IsName n → IsObject l event n (line l event n)
 unfolding line object_text json_text
-line-object l event n titled is =
-    let are = parts-named l event n titled is in
+line_object l event n titled is =
+    let are = parts_named l event n titled is in
     let plain = line_plain l event n in
     let ms = members (parts l event n) plain are in
-    let text = members-written (parts l event n) plain are in
+    let text = members_written (parts l event n) plain are in
     record {
       members = ms;
-      is-text = rw text;
-      are = members-are (parts l event n) plain are ∙ parts_are l event n;
-      numbers = sym (numbers-found (object ms)) ∙ rw (text, ← numbers-are l event n) (object-numbers (parts l event n) plain);
+      is_text = rw text;
+      are = members_are (parts l event n) plain are ∙ parts_are l event n;
+      numbers = sym (numbers_found (object ms)) ∙ rw (text, ← numbers_are l event n) (object_numbers (parts l event n) plain);
     }
 
 -- names with different codes differ
@@ -92,9 +92,9 @@ all_new (a ∷ more) test =
     let tests = (and-eq-true_iff (is_new a more) (are_new more)).0 test in
     (new a more tests.0, all_new more tests.1)
 
-names-distinct : (l : Line) (event : Option (Option (List ℕ))) (n : Option (List ℕ)) → Distinct (map (λ m. m.name) (line_members l event n))
-names-distinct l none n = all_new (map (λ m. m.name) (line_members l none n)) refl
-names-distinct l (some title) n = all_new (map (λ m. m.name) (line_members l (some title) n)) refl
+names_distinct : (l : Line) (event : Option (Option (List ℕ))) (n : Option (List ℕ)) → Distinct (map (λ m. m.name) (line_members l event n))
+names_distinct l none n = all_new (map (λ m. m.name) (line_members l none n)) refl
+names_distinct l (some title) n = all_new (map (λ m. m.name) (line_members l (some title) n)) refl
 
 -- a name in a dump or in a name file is of bytes
 part_bytes : (s : List ℕ) (at size : ℕ) → AreBytes s → AreBytes (take size (drop at s))
@@ -111,22 +111,22 @@ module _ (file : Option (List ℕ)) (s : List ℕ) (of-dump : AreBytes s) (of-fi
   name-bytes (Named kind at size) = part_bytes s at size of-dump
   name-bytes (Filed at size) = part_bytes (file_bytes file) at size of-file
 
-  title-bytes : (e : Event) → IsTitle (title_in file s e)
+  title_bytes : (e : Event) → IsTitle (title_in file s e)
   unfolding title_in
-  title-bytes e = by file (name-bytes e.title)
+  title_bytes e = by file (name-bytes e.title)
     where
       by : (given : Option (List ℕ)) → IsName (name_bytes given s e.title) → IsTitle (title_in given s e)
       by none is = tt
       by (some f) is = is
 
-pub json-lines : JsonLines
+pub json_lines : JsonLines
 unfolding line_of
-json-lines = record {
-  line-object = line-object;
-  listed-object = λ file s h r position of-dump of-file.
+json_lines = record {
+  line_object = line_object;
+  listed_object = λ file s h r position of-dump of-file.
       let event = event_at file s h position in
-      line-object (fields r position event) (title_in file s event) (name_bytes file s event.name) (title-bytes file s of-dump of-file event) (name-bytes file s of-dump of-file event.name);
-  names-distinct = names-distinct;
-  numbers-found = numbers-found;
-  numbers-found-first = numbers-found-first;
+      line_object (fields r position event) (title_in file s event) (name_bytes file s event.name) (title_bytes file s of-dump of-file event) (name-bytes file s of-dump of-file event.name);
+  names_distinct = names_distinct;
+  numbers_found = numbers_found;
+  numbers_found_first = numbers_found_first;
 }

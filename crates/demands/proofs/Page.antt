@@ -18,8 +18,8 @@ use Rattle.trace.specs.Names.{name_bytes}
 use Rattle.trace.specs.declared.Header.{Header}
 use Rattle.demands.specs.Keys.{key_at}
 use Rattle.demands.specs.Page.{behind, key_text, line_in, up_to}
-use Rattle.demands.proofs.OneLine.{line-unbroken}
-use Rattle.demands.proofs.Plain.{All, both, byte, digits-all, no_byte}
+use Rattle.demands.proofs.OneLine.{line_unbroken}
+use Rattle.demands.proofs.Plain.{All, both, byte, digits_all, no_byte}
 
 -- no byte of a text is c
 abbrev Without : ℕ → List ℕ → Type 0
@@ -30,10 +30,10 @@ unfolding up_to
 up-to {c} rest no_byte = rw (eq-eqb c c refl)
 up-to {c} rest (byte {c = b} other more) = rw (ne_eqb b c other) (ap (λ (t : List ℕ). b ∷ t) (up-to rest more))
 
-from-behind : {c : ℕ} {text : List ℕ} (rest : List ℕ) → Without c text → behind c (text ++ (c ∷ rest)) ≡ rest
+from_behind : {c : ℕ} {text : List ℕ} (rest : List ℕ) → Without c text → behind c (text ++ (c ∷ rest)) ≡ rest
 unfolding behind
-from-behind {c} rest no_byte = rw (eq-eqb c c refl)
-from-behind {c} rest (byte {c = b} other more) = rw (ne_eqb b c other) (from-behind rest more)
+from_behind {c} rest no_byte = rw (eq-eqb c c refl)
+from_behind {c} rest (byte {c = b} other more) = rw (ne_eqb b c other) (from_behind rest more)
 
 module _ (file : Option (List ℕ)) (s : List ℕ) (h : Header) (r : Reading) where
   -- a line without its 0A
@@ -44,49 +44,49 @@ module _ (file : Option (List ℕ)) (s : List ℕ) (h : Header) (r : Reading) wh
   unfolding line_of line
   ended p rest = append_assoc (object p) (0x0A ∷ []) rest
 
-  unbroken-object : (p : ℕ) → Without 0x0A (object p)
-  unbroken-object p = line-unbroken _ _ _
+  unbroken_object : (p : ℕ) → Without 0x0A (object p)
+  unbroken_object p = line_unbroken _ _ _
 
-  pub first-line : (p : ℕ) (rest : List ℕ) → line_in (line_at file s h r p ++ rest) 0 ≡ object p
+  pub first_line : (p : ℕ) (rest : List ℕ) → line_in (line_at file s h r p ++ rest) 0 ≡ object p
   unfolding line_in
-  first-line p rest = rw (ended p rest) (up-to rest (unbroken-object p))
+  first_line p rest = rw (ended p rest) (up-to rest (unbroken_object p))
 
   -- n lines are passed over
-  lines-passed : (n p : ℕ) (rest : List ℕ) → line_in (lines_to n file s h r ++ rest) (n + p) ≡ line_in rest p
+  lines_passed : (n p : ℕ) (rest : List ℕ) → line_in (lines_to n file s h r ++ rest) (n + p) ≡ line_in rest p
   unfolding lines_to line_in
-  lines-passed zero p rest = ap (line_in rest) (zero-add p)
-  lines-passed (suc n) p rest =
+  lines_passed zero p rest = ap (line_in rest) (zero-add p)
+  lines_passed (suc n) p rest =
       let more : suc n + p ≡ n + suc p = omega arith in
       rw (append_assoc (lines_to n file s h r) (line_at file s h r n) rest)
-      (ap (line_in (lines_to n file s h r ++ (line_at file s h r n ++ rest))) more ∙ lines-passed n (suc p) (line_at file s h r n ++ rest)
-      ∙ ap (λ (t : List ℕ). line_in t p) (rw (ended n rest) (from-behind rest (unbroken-object n))))
+      (ap (line_in (lines_to n file s h r ++ (line_at file s h r n ++ rest))) more ∙ lines_passed n (suc p) (line_at file s h r n ++ rest)
+      ∙ ap (λ (t : List ℕ). line_in t p) (rw (ended n rest) (from_behind rest (unbroken_object n))))
 
-  next-line : (n : ℕ) (rest : List ℕ) → line_in (lines_to n file s h r ++ (line_at file s h r n ++ rest)) n ≡ object n
-  next-line n rest = ap (line_in (lines_to n file s h r ++ (line_at file s h r n ++ rest))) (sym (add-zero n)) ∙ lines-passed n 0 (line_at file s h r n ++ rest) ∙ first-line n rest
+  next_line : (n : ℕ) (rest : List ℕ) → line_in (lines_to n file s h r ++ (line_at file s h r n ++ rest)) n ≡ object n
+  next_line n rest = ap (line_in (lines_to n file s h r ++ (line_at file s h r n ++ rest))) (sym (add-zero n)) ∙ lines_passed n 0 (line_at file s h r n ++ rest) ∙ first_line n rest
 
-  pub line-found : (n p : ℕ) (rest : List ℕ) → p < n → line_in (lines_to n file s h r ++ rest) p ≡ object p
+  pub line_found : (n p : ℕ) (rest : List ℕ) → p < n → line_in (lines_to n file s h r ++ rest) p ≡ object p
   unfolding lines_to
-  line-found zero p rest below = absurd (omega arith)
-  line-found (suc n) p rest below =
+  line_found zero p rest below = absurd (omega arith)
+  line_found (suc n) p rest below =
       rw (append_assoc (lines_to n file s h r) (line_at file s h r n) rest)
-      (⊎_elim (λ last. rw last (next-line n rest)) (line-found n p (line_at file s h r n ++ rest)) (eq-or-lt_of_le (le_of_suc-le-suc below)))
+      (⊎_elim (λ last. rw last (next_line n rest)) (line_found n p (line_at file s h r n ++ rest)) (eq-or-lt_of_le (le_of_suc-le-suc below)))
 
 -- a number has no comma, so the key, which comes first, ends at one
-number-whole : (n : ℕ) → Without 0x2C (number n)
+number_whole : (n : ℕ) → Without 0x2C (number n)
 unfolding number quoted
-number-whole n = by (is_bare n)
+number_whole n = by (is_bare n)
   where
     ones : Without 0x2C (digits n)
-    ones = digits-all (λ b. b ≡ 0x2C → ⊥) (λ d below. omega arith) n
+    ones = digits_all (λ b. b ≡ 0x2C → ⊥) (λ d below. omega arith) n
 
     by : (bare : Bool) → Without 0x2C (choose bare (digits n) (quoted (digits n)))
     by true = ones
     by false = byte {c = 0x22} (omega arith) (both ones (byte {c = 0x22} (omega arith) no_byte))
 
-first-text : (k : ℕ) (p : Part) (ps : List Part) → key_text (object_text (part "key" (numeric k) ∷ p ∷ ps)) ≡ number k
+first_text : (k : ℕ) (p : Part) (ps : List Part) → key_text (object_text (part "key" (numeric k) ∷ p ∷ ps)) ≡ number k
 unfolding object_text part_text value_text quoted
-first-text k p ps = rw (append_assoc (number k), append_assoc (number k)) (up-to _ (number-whole k))
+first_text k p ps = rw (append_assoc (number k), append_assoc (number k)) (up-to _ (number_whole k))
 
-pub line-key : (file : Option (List ℕ)) (s : List ℕ) (h : Header) (r : Reading) (p : ℕ) → key_text (object file s h r p) ≡ number (key_at r p)
+pub line_key : (file : Option (List ℕ)) (s : List ℕ) (h : Header) (r : Reading) (p : ℕ) → key_text (object file s h r p) ≡ number (key_at r p)
 unfolding parts fields
-line-key file s h r p = first-text _ _ _
+line_key file s h r p = first_text _ _ _

@@ -7,15 +7,15 @@ use lib.Dec.{eqb}
 use borrow.Author.Tests.{ne_eqb}
 use Rattle.trace.specs.Layout.{trace_id, header_in}
 use Rattle.trace.specs.Table.{row3}
-use Rattle.words.proofs.Laws.{read-bytes}
+use Rattle.words.proofs.Laws.{read_bytes}
 use Rattle.words.specs.Words.{AreBytes, bytes_at, lowest_first, joined, split, number_at, number_bytes, word_at}
 use Rattle.words.specs.declared.Order.{Order}
 use Rattle.words.specs.declared.Order.TheVariants.{Big, Little}
 use Rattle.demands.specs.Patterns.{Patterns}
 
 -- an id that reads right has that order's bytes
-id-bytes : (o : Order) (s : List ℕ) → AreBytes s → word_at o s 0 ≡ trace_id → bytes_at s 0 4 ≡ number_bytes o 4 trace_id
-id-bytes o s bytes e = sym (read-bytes o 4 s 0 bytes) ∙ ap (λ (v : ℕ). number_bytes o 4 v) e
+id_bytes : (o : Order) (s : List ℕ) → AreBytes s → word_at o s 0 ≡ trace_id → bytes_at s 0 4 ≡ number_bytes o 4 trace_id
+id_bytes o s bytes e = sym (read_bytes o 4 s 0 bytes) ∙ ap (λ (v : ℕ). number_bytes o 4 v) e
 
 pub patterns : (s : List ℕ) → AreBytes s → Patterns s
 unfolding number_at number_bytes lowest_first joined split header_in row3
@@ -26,7 +26,7 @@ patterns s bytes = record {
       let right : word_at Little s 0 ≡ trace_id = rw e in
       (rw wrong, rw wrong (rw right));
   neither = λ b l.
-      let wrong : eqb (word_at Big s 0) trace_id ≡ false = ne_eqb (word_at Big s 0) trace_id (λ e. b (id-bytes Big s bytes e)) in
-      let wrong-too : eqb (word_at Little s 0) trace_id ≡ false = ne_eqb (word_at Little s 0) trace_id (λ e. l (id-bytes Little s bytes e)) in
+      let wrong : eqb (word_at Big s 0) trace_id ≡ false = ne_eqb (word_at Big s 0) trace_id (λ e. b (id_bytes Big s bytes e)) in
+      let wrong-too : eqb (word_at Little s 0) trace_id ≡ false = ne_eqb (word_at Little s 0) trace_id (λ e. l (id_bytes Little s bytes e)) in
       rw wrong (rw wrong-too);
 }

@@ -9,8 +9,8 @@ use native.Mathlib.Decide.{dec_lt}
 use native.Mathlib.Omega.{arith}
 use lib.Dec.{eqb, leb, ltb}
 use borrow.Author.Tests.{eqb-false, leb-true, ltb-false, ltb-true, not-true}
-use Rattle.text.proofs.Digits.{by-tenths, digits_more, digits-one}
-use Rattle.text.proofs.Escapes.{by_kind, escape-high, escape-low}
+use Rattle.text.proofs.Digits.{by_tenths, digits_more, digits_one}
+use Rattle.text.proofs.Escapes.{by_kind, escape_high, escape_low}
 use Rattle.text.specs.Lines.{Part, Value, context, event_parts, listed, named, numeric, parts, truth, word}
 use Rattle.text.specs.Names.{escape, hex_digit, hexed, slashed}
 use Rattle.text.specs.Numbers.{digit, digits}
@@ -36,22 +36,22 @@ pub record Plain (c : ℕ) : Type 0 where
   pub slash : c ≡ 0x5C → ⊥
 
 -- what holds of every digit holds of a number's digits
-pub digits-all : (P : ℕ → Type 0) → ((d : ℕ) → d < 10 → P (digit d)) → (n : ℕ) → All P (digits n)
-digits-all P each =
-    by-tenths (λ n. All P (digits n)) (λ n below. rw (digits-one n below) (byte (each n below) no_byte))
+pub digits_all : (P : ℕ → Type 0) → ((d : ℕ) → d < 10 → P (digit d)) → (n : ℕ) → All P (digits n)
+digits_all P each =
+    by_tenths (λ n. All P (digits n)) (λ n below. rw (digits_one n below) (byte (each n below) no_byte))
     (λ n large front. rw (digits_more n large) (both front (byte (each (n % 10) (omega arith)) no_byte)))
 
-pub digits-plain : (n : ℕ) → All Plain (digits n)
-digits-plain = digits-all Plain (λ d below. omega arith)
+pub digits_plain : (n : ℕ) → All Plain (digits n)
+digits_plain = digits_all Plain (λ d below. omega arith)
 
 -- the test, of a text
 abbrev are_plain : List ℕ → Bool
 are_plain [] = true
 are_plain (c ∷ text) = leb 0x20 c && leb c 0x7E && not (eqb c 0x22) && not (eqb c 0x5C) && are_plain text
 
-plain-text : (text : List ℕ) → are_plain text ≡ true → All Plain text
-plain-text [] test = no_byte
-plain-text (c ∷ text) test =
+plain_text : (text : List ℕ) → are_plain text ≡ true → All Plain text
+plain_text [] test = no_byte
+plain_text (c ∷ text) test =
     let rest = (and-eq-true_iff _ (are_plain text)).0 test in
     let slash = (and-eq-true_iff _ (not (eqb c 0x5C))).0 rest.0 in
     let quote = (and-eq-true_iff _ (not (eqb c 0x22))).0 slash.0 in
@@ -62,7 +62,7 @@ plain-text (c ∷ text) test =
       quote = eqb-false c 0x22 (not-true _ quote.1);
       slash = eqb-false c 0x5C (not-true _ slash.1);
     } in
-    byte plain (plain-text text rest.1)
+    byte plain (plain_text text rest.1)
 
 -- and of parts: their labels and words
 abbrev pub word_in : Value → List ℕ
@@ -80,39 +80,39 @@ abbrev are_plain_parts : List Part → Bool
 are_plain_parts [] = true
 are_plain_parts (p ∷ ps) = are_plain p.label && are_plain (word_in p.value) && are_plain_parts ps
 
-plain-parts : (ps : List Part) → are_plain_parts ps ≡ true → Each PlainPart ps
-plain-parts [] test = tt
-plain-parts (p ∷ ps) test =
+plain_parts : (ps : List Part) → are_plain_parts ps ≡ true → Each PlainPart ps
+plain_parts [] test = tt
+plain_parts (p ∷ ps) test =
     let rest = (and-eq-true_iff _ (are_plain_parts ps)).0 test in
     let part = (and-eq-true_iff (are_plain p.label) _).0 rest.0 in
-    (record { label = plain-text _ part.0; word = plain-text _ part.1 }, plain-parts ps rest.1)
+    (record { label = plain_text _ part.0; word = plain_text _ part.1 }, plain_parts ps rest.1)
 
-context-plain : (by : Context) → are_plain (context by) ≡ true
+context_plain : (by : Context) → are_plain (context by) ≡ true
 unfolding context
-context-plain Init = refl
-context-plain Isr = refl
-context-plain Thread = refl
+context_plain Init = refl
+context_plain Isr = refl
+context_plain Thread = refl
 
 -- a line's parts pass it
 pub line_plain : (l : Line) (event : Option (Option (List ℕ))) (name : Option (List ℕ)) → Each PlainPart (parts l event name)
 unfolding event_parts parts
-line_plain l none name = plain-parts (parts l none name) (rw (context-plain l.by))
-line_plain l (some title) name = plain-parts (parts l (some title) name) (rw (context-plain l.by))
+line_plain l none name = plain_parts (parts l none name) (rw (context_plain l.by))
+line_plain l (some title) name = plain_parts (parts l (some title) name) (rw (context_plain l.by))
 
 -- a hex digit is a digit or a letter
-pub by-hex : (d : ℕ) (P : ℕ → Type 0) → (d < 10 → P (48 + d)) → (10 ≤ d → P (87 + d)) → P (hex_digit d)
+pub by_hex : (d : ℕ) (P : ℕ → Type 0) → (d < 10 → P (48 + d)) → (10 ≤ d → P (87 + d)) → P (hex_digit d)
 unfolding hex_digit
-by-hex d P digit letter = by (ltb d 10) refl
+by_hex d P digit letter = by (ltb d 10) refl
   where
     by : (small : Bool) → ltb d 10 ≡ small → P (cond small (48 + d) (87 + d))
     by true e = digit (ltb-true d 10 e)
     by false e = letter (ltb-false d 10 e)
 
 -- a byte that is not plain is escaped by hex digits, or it is a quote or a backslash behind one
-pub by-escape : (b : ℕ) (P : List ℕ → Type 0) → P (hexed b) → P (slashed 0x22) → P (slashed 0x5C) → (Plain b → P (b ∷ [])) → P (escape b)
-by-escape b P hex quote slash self = by (dec_lt b 0x20) (dec_lt 0x7E b)
+pub by_escape : (b : ℕ) (P : List ℕ → Type 0) → P (hexed b) → P (slashed 0x22) → P (slashed 0x5C) → (Plain b → P (b ∷ [])) → P (escape b)
+by_escape b P hex quote slash self = by (dec_lt b 0x20) (dec_lt 0x7E b)
   where
     by : Dec (b < 0x20) → Dec (0x7E < b) → P (escape b)
-    by (yes low) above = rw (escape-low b low) hex
-    by (no low) (yes high) = rw (escape-high b high) hex
+    by (yes low) above = rw (escape_low b low) hex
+    by (no low) (yes high) = rw (escape_high b high) hex
     by (no low) (no high) = by_kind b P hex (⊎_elim (λ is. rw is quote) (λ is. rw is slash)) (λ quote slash. self (omega arith))

@@ -18,14 +18,14 @@ use Rattle.mending.specs.declared.Repairs.{Repairs}
 use Rattle.naming.specs.Finding.{find_name_with, finding_rows, name_with}
 use Rattle.naming.specs.Records.{file_rows, row27}
 use Rattle.pieces.specs.Pieces.{finish_rows, finished}
-use Rattle.rows.proofs.Rows.{one_kept, then-broken, then-refused, then-rest}
+use Rattle.rows.proofs.Rows.{one_kept, then_broken, then_refused, then_rest}
 use Rattle.rows.specs.Lent.{left_in}
 use Rattle.rows.specs.Rows.{Accepted, Row, first_broken, refusal}
 use Rattle.rows.specs.Told.{Told, told_refusal, told_values}
 use Rattle.rows.specs.declared.Refusal.{Refusal}
 use Rattle.rows.specs.declared.Verdict.{Verdict}
 use Rattle.rows.specs.declared.Verdict.TheVariants.{Passed, Refused}
-use Rattle.trace.proofs.Opened.{open-rows}
+use Rattle.trace.proofs.Opened.{open_rows}
 use Rattle.trace.specs.Check.{check_of, checked_by, checked_told, header_numbers}
 use Rattle.trace.specs.Layout.{buffer_end, header_of}
 use Rattle.trace.specs.Names.{find_name, found_by, found_told, name_numbers, name_of}
@@ -36,13 +36,13 @@ use Rattle.trace.specs.declared.Header.{Header}
 use Rattle.trace.specs.declared.Name.{Name}
 use Rattle.trace.specs.declared.Name.TheVariants.{Filed, Named, Nameless}
 use Rattle.words.specs.Each.{Each}
-use Rattle.writing.proofs.Opened.{open-writing-rows}
+use Rattle.writing.proofs.Opened.{open_writing_rows}
 use Rattle.writing.specs.Writing.{Change, filing, formatting, left, outcome_by, outcome_told, recording, registering, removing, said}
 use Rattle.demands.specs.Demands.{FirstDemand, Writes}
 use Rattle.demands.specs.Refusals.{FirstBroken, Refuses, RefusesAndKeeps, Unbroken, checks_of, dump_order, file_order, plain, registry_order}
-use Rattle.demands.proofs.Cut.{cut, nonsense, only-cut, resumed, says-cut}
-use Rattle.demands.proofs.CutShort.{layout-passed}
-use Rattle.demands.proofs.EveryCall.{all-refused}
+use Rattle.demands.proofs.Cut.{cut, nonsense, only_cut, resumed, says_cut}
+use Rattle.demands.proofs.CutShort.{layout_passed}
+use Rattle.demands.proofs.EveryCall.{all_refused}
 use Rattle.demands.proofs.Pieces.{in_pieces}
 
 -- the first broken row, found and given back
@@ -69,21 +69,21 @@ first_found (r ∷ rows) f e = by r.broken refl e (first_found rows f)
         record { before = []; this = r; more = rows; all = refl; kept = tt; broken = broken; number = ap (λ (g : Refusal). g.number) same; place = ap (λ (g : Refusal). g.place) same }
     by false kept e rest = one_more r rows f kept (rest e)
 
-behind-kept : (before : List Row) (this : Row) (more : List Row) → Each Unbroken before → this.broken ≡ true → first_broken (before ++ (this ∷ more)) ≡ Refused (refusal this)
+behind_kept : (before : List Row) (this : Row) (more : List Row) → Each Unbroken before → this.broken ≡ true → first_broken (before ++ (this ∷ more)) ≡ Refused (refusal this)
 unfolding first_broken
-behind-kept [] this more kept broken = rw broken
-behind-kept (r ∷ before) this more kept broken = rw kept.0 (behind-kept before this more kept.1 broken)
+behind_kept [] this more kept broken = rw broken
+behind_kept (r ∷ before) this more kept broken = rw kept.0 (behind_kept before this more kept.1 broken)
 
-pub first-given : (rows : List Row) (f : Refusal) → FirstBroken rows f → first_broken rows ≡ Refused f
-first-given rows f first =
-    ap first_broken first.all ∙ behind-kept first.before first.this first.more first.kept first.broken
+pub first_given : (rows : List Row) (f : Refusal) → FirstBroken rows f → first_broken rows ≡ Refused f
+first_given rows f first =
+    ap first_broken first.all ∙ behind_kept first.before first.this first.more first.kept first.broken
     ∙ ap Refused (λ i. record { number = sym first.number i; place = sym first.place i })
 
 -- where none is broken
-pub each-kept : (rows : List Row) → first_broken rows ≡ Passed → Each Unbroken rows
+pub each_kept : (rows : List Row) → first_broken rows ≡ Passed → Each Unbroken rows
 unfolding first_broken
-each-kept [] passed = tt
-each-kept (r ∷ rows) passed = by r.broken refl passed (each-kept rows)
+each_kept [] passed = tt
+each_kept (r ∷ rows) passed = by r.broken refl passed (each_kept rows)
   where
     by : (b : Bool) → r.broken ≡ b → cond b (Refused (refusal r)) (first_broken rows) ≡ Passed → (first_broken rows ≡ Passed → Each Unbroken rows) → Each Unbroken (r ∷ rows)
     by true broken e rest = let clash : true ≡ false = cc in absurd (true≢false clash)
@@ -95,18 +95,18 @@ positive [] = true
 positive (r ∷ rows) = ltb 0 r.number && positive rows
 
 -- nor has one of a name file
-positive-alone : (file : Option (List ℕ)) → positive (file_rows file) ≡ true
-unfolding open-rows row27
-positive-alone option.none = refl
-positive-alone (option.some f) = refl
+positive_alone : (file : Option (List ℕ)) → positive (file_rows file) ≡ true
+unfolding open_rows row27
+positive_alone option.none = refl
+positive_alone (option.some f) = refl
 
-positive-file : (file : Option (List ℕ)) (more : List Row) → positive more ≡ true → positive (file_rows file ++ more) ≡ true
-unfolding open-rows row27
-positive-file option.none more above = above
-positive-file (option.some f) more above = above
+positive_file : (file : Option (List ℕ)) (more : List Row) → positive more ≡ true → positive (file_rows file ++ more) ≡ true
+unfolding open_rows row27
+positive_file option.none more above = above
+positive_file (option.some f) more above = above
 
-positive-refusal : (rows : List Row) (f : Refusal) → positive rows ≡ true → first_broken rows ≡ Refused f → 1 ≤ f.number
-positive-refusal rows f above refused =
+positive_refusal : (rows : List Row) (f : Refusal) → positive rows ≡ true → first_broken rows ≡ Refused f → 1 ≤ f.number
+positive_refusal rows f above refused =
     let first = first_found rows f refused in
     rw first.number (here first.before first.this first.more (rw (← first.all) above))
   where
@@ -128,29 +128,29 @@ refuses rows values given above = by (first_broken rows) refl
   where
     by : (v : Verdict) → first_broken rows ≡ v → Refuses rows (told_by v values)
     by (Refused f) e = record {
-      when = λ g first. let same : Refused f ≡ Refused g = sym e ∙ first-given rows g first in cc;
+      when = λ g first. let same : Refused f ≡ Refused g = sym e ∙ first_given rows g first in cc;
       only = λ some. first_found rows f e;
-      zero = λ none. absurd (omega (arith, positive-refusal rows f above e));
+      zero = λ none. absurd (omega (arith, positive_refusal rows f above e));
     }
     by Passed e = record {
-      when = λ g first. let clash : Passed ≡ Refused g = sym e ∙ first-given rows g first in cc;
+      when = λ g first. let clash : Passed ≡ Refused g = sym e ∙ first_given rows g first in cc;
       only = λ some. absurd (some refl);
-      zero = λ none. (refl, given, each-kept rows e);
+      zero = λ none. (refl, given, each_kept rows e);
     }
 
-some-value : {v : ℕ} {values : List ℕ} → v ∷ values ≡ [] → ⊥
-some-value none = let clash : true ≡ false = cc in true≢false clash
+some_value : {v : ℕ} {values : List ℕ} → v ∷ values ≡ [] → ⊥
+some_value none = let clash : true ≡ false = cc in true≢false clash
 
-name-some : (name : Name) → name_numbers name ≡ [] → ⊥
+name_some : (name : Name) → name_numbers name ≡ [] → ⊥
 unfolding name_numbers
-name-some Nameless none = some-value none
-name-some (Named kind at length) none = some-value none
-name-some (Filed at length) none = some-value none
+name_some Nameless none = some_value none
+name_some (Named kind at length) none = some_value none
+name_some (Filed at length) none = some_value none
 
 -- a number that is not 0 is that of a refusal
-told-refused : (v : Verdict) (values : List ℕ) → ((told_by v values).number ≡ 0 → ⊥) → (f : Refusal) × (v ≡ Refused f)
-told-refused (Refused f) values some = (f, refl)
-told-refused Passed values some = absurd (some refl)
+told_refused : (v : Verdict) (values : List ℕ) → ((told_by v values).number ≡ 0 → ⊥) → (f : Refusal) × (v ≡ Refused f)
+told_refused (Refused f) values some = (f, refl)
+told_refused Passed values some = absurd (some refl)
 
 -- so the answers of all calls tell
 checked-told : (v : Verdict) (h : Header) (n : ℕ) → checked_told (checked_by v h n) ≡ told_by v (header_numbers h ++ (n ∷ []))
@@ -179,7 +179,7 @@ outcome-told (Refused f) n = refl
 outcome-told Passed n = refl
 
 prints : (rows : List Row) (text old new : List ℕ) (said : Listed) → positive rows ≡ true → Gave rows text old new said → RefusesAndKeeps rows old new (listed_told said)
-prints rows text old new said above gave = (rw told (refuses rows (length text ∷ []) some-value above), λ some. kept (told-refused (first_broken rows) (length text ∷ []) (rw told at some)))
+prints rows text old new said above gave = (rw told (refuses rows (length text ∷ []) some_value above), λ some. kept (told_refused (first_broken rows) (length text ∷ []) (rw told at some)))
   where
     told : listed_told said ≡ told_by (first_broken rows) (length text ∷ [])
     told = ap listed_told gave.answered ∙ listed-told (first_broken rows) (length text)
@@ -188,7 +188,7 @@ prints rows text old new said above gave = (rw told (refuses rows (length text �
     kept (f, refused) = gave.output ∙ rw refused
 
 pub writes : (c : Change) (s : List ℕ) → positive c.rows ≡ true → Writes c s
-writes c s above = (rw told (refuses c.rows (c.gives ∷ []) some-value above), λ some. kept (told-refused (first_broken c.rows) (c.gives ∷ []) (rw told at some)))
+writes c s above = (rw told (refuses c.rows (c.gives ∷ []) some_value above), λ some. kept (told_refused (first_broken c.rows) (c.gives ∷ []) (rw told at some)))
   where
     told : outcome_told (said c) ≡ told_by (first_broken c.rows) (c.gives ∷ [])
     told = outcome-told (first_broken c.rows) c.gives
@@ -201,12 +201,12 @@ unfolding mended_told
 mended-told (Refused f) n r = refl
 mended-told Passed n r = refl
 
-mends-or-keeps : (s old : List ℕ)
+mends_or_keeps : (s old : List ℕ)
     → let rows = mending_rows s (header_of s) (length old) in
     RefusesAndKeeps rows old (left_in old (first_broken rows) (copy_of s (header_of s))) (mended_told (mend_of s (length old)))
-unfolding mend_of open-rows
-mends-or-keeps s old =
-    (rw told (refuses rows _ some-value refl), λ some. kept (told-refused (first_broken rows) (buffer_end (header_of s) ∷ repair_numbers (repairs_of s (header_of s))) (rw told at some)))
+unfolding mend_of open_rows
+mends_or_keeps s old =
+    (rw told (refuses rows _ some_value refl), λ some. kept (told_refused (first_broken rows) (buffer_end (header_of s) ∷ repair_numbers (repairs_of s (header_of s))) (rw told at some)))
   where
     rows : List Row
     rows = mending_rows s (header_of s) (length old)
@@ -218,34 +218,34 @@ mends-or-keeps s old =
     kept (f, refused) = rw refused
 
 -- where rows 1 to 9 have passed, room is all that mending asks
-mended-room : (s : List ℕ) (room : ℕ) → Accepted (layout_rows (header_of s) (length s)) → buffer_end (header_of s) ≤ room → Accepted (mending_rows s (header_of s) room)
+mended_room : (s : List ℕ) (room : ℕ) → Accepted (layout_rows (header_of s) (length s)) → buffer_end (header_of s) ≤ room → Accepted (mending_rows s (header_of s) room)
 unfolding row16
-mended-room s room layout fits =
-    sym (then-rest (layout_rows (header_of s) (length s)) (row16 (buffer_end (header_of s)) room ∷ []) layout)
+mended_room s room layout fits =
+    sym (then_rest (layout_rows (header_of s) (length s)) (row16 (buffer_end (header_of s)) room ∷ []) layout)
     ∙ one_kept (row16 (buffer_end (header_of s)) room) (le-ltb room (buffer_end (header_of s)) fits)
 
 -- a name file's rows stand where they are said to
-file-alone : (file : Option (List ℕ)) → checks_of (file_rows file) ≡ file_order file
-unfolding open-rows row27
-file-alone option.none = refl
-file-alone (option.some f) = refl
+file_alone : (file : Option (List ℕ)) → checks_of (file_rows file) ≡ file_order file
+unfolding open_rows row27
+file_alone option.none = refl
+file_alone (option.some f) = refl
 
-file-checks : (file : Option (List ℕ)) (more : List Row) → checks_of (file_rows file ++ more) ≡ file_order file ++ checks_of more
-unfolding open-rows row27
-file-checks option.none more = refl
-file-checks (option.some f) more = refl
+file_checks : (file : Option (List ℕ)) (more : List Row) → checks_of (file_rows file ++ more) ≡ file_order file ++ checks_of more
+unfolding open_rows row27
+file_checks option.none more = refl
+file_checks (option.some f) more = refl
 
-pub first-demand : FirstDemand
-unfolding numbers_from open-rows open-writing-rows
+pub first_demand : FirstDemand
+unfolding numbers_from open_rows open_writing_rows
     recording registering removing formatting filing mend_of check_of finished find_name find_name_with event_of header_numbers event_numbers slot_numbers
-first-demand = record {
+first_demand = record {
   orders = record {
     checking = λ s. refl;
     finding = λ s. refl;
-    finding-with = λ file s. ap (λ (more : List Refusal). registry_order s (header_of s) ++ more) (file-alone file);
-    event = λ file s position. ap (λ (more : List Refusal). dump_order s (header_of s) ++ more) (file-checks file _);
-    listing = λ file s r room. ap (λ (more : List Refusal). dump_order s (header_of s) ++ plain (14 ∷ 15 ∷ []) ++ more) (file-checks file _);
-    line = λ file s r position room. ap (λ (more : List Refusal). dump_order s (header_of s) ++ plain (14 ∷ 15 ∷ []) ++ more) (file-checks file _);
+    finding_with = λ file s. ap (λ (more : List Refusal). registry_order s (header_of s) ++ more) (file_alone file);
+    event = λ file s position. ap (λ (more : List Refusal). dump_order s (header_of s) ++ more) (file_checks file _);
+    listing = λ file s r room. ap (λ (more : List Refusal). dump_order s (header_of s) ++ plain (14 ∷ 15 ∷ []) ++ more) (file_checks file _);
+    line = λ file s r position room. ap (λ (more : List Refusal). dump_order s (header_of s) ++ plain (14 ∷ 15 ∷ []) ++ more) (file_checks file _);
     recording = λ slot s. refl;
     registering = λ object name s. refl;
     removing = λ pointer s. refl;
@@ -253,31 +253,31 @@ first-demand = record {
     mending = λ s room. refl;
     filing = λ subject number name offset s. refl;
   };
-  checking = λ s. rw (checked-told (first_broken (dump_rows s (header_of s))) (header_of s) (event_count s (header_of s))) (refuses (dump_rows s (header_of s)) _ some-value refl);
-  finding = λ s pointer. rw (found-told (first_broken (registry_rows s (header_of s))) (name_of s (header_of s) pointer)) (refuses (registry_rows s (header_of s)) _ (name-some (name_of s (header_of s) pointer)) refl);
-  finding-with = λ file s pointer.
+  checking = λ s. rw (checked-told (first_broken (dump_rows s (header_of s))) (header_of s) (event_count s (header_of s))) (refuses (dump_rows s (header_of s)) _ some_value refl);
+  finding = λ s pointer. rw (found-told (first_broken (registry_rows s (header_of s))) (name_of s (header_of s) pointer)) (refuses (registry_rows s (header_of s)) _ (name_some (name_of s (header_of s) pointer)) refl);
+  finding_with = λ file s pointer.
       rw (found-told (first_broken (finding_rows file s (header_of s))) (name_with file s (header_of s) pointer))
-      (refuses (finding_rows file s (header_of s)) _ (name-some (name_with file s (header_of s) pointer)) (positive-alone file));
+      (refuses (finding_rows file s (header_of s)) _ (name_some (name_with file s (header_of s) pointer)) (positive_alone file));
   event = λ file s position.
       rw (shown-told (first_broken (event_rows file s (header_of s) position)) (event_at file s (header_of s) position))
-      (refuses (event_rows file s (header_of s) position) _ some-value (positive-file file _ refl));
-  listing = λ file s r old new said gave. prints _ _ old new said (positive-file file _ refl) gave;
-  line = λ file s r position old new said gave. prints _ _ old new said (positive-file file _ refl) gave;
+      (refuses (event_rows file s (header_of s) position) _ some_value (positive_file file _ refl));
+  listing = λ file s r old new said gave. prints _ _ old new said (positive_file file _ refl) gave;
+  line = λ file s r position old new said gave. prints _ _ old new said (positive_file file _ refl) gave;
   formatting = λ f s. writes (formatting f s) s refl;
   recording = λ slot s. writes (recording slot s) s refl;
   registering = λ object name s. writes (registering object name s) s refl;
   removing = λ pointer s. writes (removing pointer s) s refl;
   filing = λ subject number name offset s. writes (filing subject number name offset s) s refl;
-  mending = mends-or-keeps;
-  mending-alike = λ s f refused. (all-refused s f (sym (then-refused (layout_rows (header_of s) (length s)) _ f refused)), λ room. rw (sym (then-refused (layout_rows (header_of s) (length s)) (row16 (buffer_end (header_of s)) room ∷ []) f refused)));
-  mending-takes = λ s room begun there right.
-      let layout = layout-passed (header_of s) (length s) begun there right in
-      (mended-room s room layout, λ short. rw (then-broken (layout_rows (header_of s) (length s)) (row16 (buffer_end (header_of s)) room) [] layout (lt-ltb room (buffer_end (header_of s)) short)));
-  says-cut = says-cut;
-  only-cut = only-cut;
+  mending = mends_or_keeps;
+  mending_alike = λ s f refused. (all_refused s f (sym (then_refused (layout_rows (header_of s) (length s)) _ f refused)), λ room. rw (sym (then_refused (layout_rows (header_of s) (length s)) (row16 (buffer_end (header_of s)) room ∷ []) f refused)));
+  mending_takes = λ s room begun there right.
+      let layout = layout_passed (header_of s) (length s) begun there right in
+      (mended_room s room layout, λ short. rw (then_broken (layout_rows (header_of s) (length s)) (row16 (buffer_end (header_of s)) room) [] layout (lt-ltb room (buffer_end (header_of s)) short)));
+  says_cut = says_cut;
+  only_cut = only_cut;
   nonsense = nonsense;
   cut = cut;
   resumed = resumed;
   in_pieces = in_pieces;
-  finishing = λ p. rw (checked-told (first_broken (finish_rows p)) (header_of p.header) p.body.slots.unused) (refuses (finish_rows p) _ some-value refl);
+  finishing = λ p. rw (checked-told (first_broken (finish_rows p)) (header_of p.header) p.body.slots.unused) (refuses (finish_rows p) _ some_value refl);
 }

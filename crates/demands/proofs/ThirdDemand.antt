@@ -13,12 +13,12 @@ use Rattle.events.specs.declared.Listed.{Listed}
 use Rattle.events.specs.declared.Listed.TheVariants.{Written}
 use Rattle.events.specs.declared.Reading.{Reading}
 use Rattle.naming.specs.Records.{file_rows}
-use Rattle.rows.proofs.Rows.{one_kept, then-rest}
+use Rattle.rows.proofs.Rows.{one_kept, then_rest}
 use Rattle.rows.specs.Rows.{Accepted, first_broken}
 use Rattle.rows.specs.declared.Verdict.TheVariants.{Passed}
-use Rattle.trace.proofs.Checks.{check-passed}
-use Rattle.trace.proofs.InTurn.{sound-turn}
-use Rattle.trace.proofs.Passed.{mask-wide}
+use Rattle.trace.proofs.Checks.{check_passed}
+use Rattle.trace.proofs.InTurn.{sound_turn}
+use Rattle.trace.proofs.Passed.{mask_wide}
 use Rattle.trace.specs.Layout.{header_of, current_slot}
 use Rattle.trace.specs.Slots.{event_count, slot_in}
 use Rattle.trace.specs.Table.{dump_rows, row14, row15, row16}
@@ -35,11 +35,11 @@ use Rattle.demands.specs.Masks.{range}
 use Rattle.demands.specs.Shown.{ReadingAccepted, lines_of, shown_ticks}
 use Rattle.demands.specs.Writings.{Formatted}
 use Rattle.demands.proofs.Answers.{done-is}
-use Rattle.demands.proofs.History.{Holds, calls-hold, no_write}
-use Rattle.demands.proofs.OrderAndTime.{not-above, not-below}
-use Rattle.demands.proofs.Shown.{count-is, last-length, text-is, words_are}
-use Rattle.demands.proofs.TrueTimes.{stamp-cut, ticks-exact, ticks-gone}
-use Rattle.demands.proofs.Writings.{formatting-makes}
+use Rattle.demands.proofs.History.{Holds, calls_hold, no_write}
+use Rattle.demands.proofs.OrderAndTime.{not_above, not_below}
+use Rattle.demands.proofs.Shown.{count_is, last_length, text_is, words_are}
+use Rattle.demands.proofs.TrueTimes.{stamp_cut, ticks_exact, ticks_gone}
+use Rattle.demands.proofs.Writings.{formatting_makes}
 
 fresh_holds : (f : Format) (s : List ℕ) (n : ℕ) → f.base < 2 ^ 32 → said (formatting f s) ≡ outcome.Done n → (0 < n) × Holds n f.mask [] (left (formatting f s) s)
 unfolding formatting fresh_header
@@ -61,7 +61,7 @@ fresh_holds f s n word done = (
     slots = sym (done-is (first_broken (formatting f s).rows) (formatting f s).gives n done).1
 
     makes : Formatted f s (left (formatting f s) s) (fresh_header f (fresh_end f (length s)))
-    makes = formatting-makes f s word passed
+    makes = formatting_makes f s word passed
 
     header : header_of (left (formatting f s) s) ≡ fresh_header f (fresh_end f (length s))
     header = fresh-header f s passed word
@@ -69,45 +69,45 @@ fresh_holds f s n word done = (
     first : current_slot (fresh_header f (fresh_end f (length s))) ≡ 0
     first =
         ⊎_elim (λ here. sym here) (λ none. absurd (omega (arith, makes.slots, makes.one)))
-        (rw header at (sound-turn (left (formatting f s) s) _ 0 makes.sound).behind)
+        (rw header at (sound_turn (left (formatting f s) s) _ 0 makes.sound).behind)
 
 -- true times of the last ones, and that they never go back either
-time-of : (ws : List Write) (i : ℕ) → (get_or ws i no_write).time ≡ time_at ws i
+time_of : (ws : List Write) (i : ℕ) → (get_or ws i no_write).time ≡ time_at ws i
 unfolding no_write
-time-of [] i = refl
-time-of (w ∷ ws) zero = refl
-time-of (w ∷ ws) (suc i) = time-of ws i
+time_of [] i = refl
+time_of (w ∷ ws) zero = refl
+time_of (w ∷ ws) (suc i) = time_of ws i
 
-time-later : (k : ℕ) (ws : List Write) (i : ℕ) → time_at (drop k ws) i ≡ time_at ws (k + i)
-time-later zero ws i = rw zero-add
-time-later (suc k) [] i = refl
-time-later (suc k) (w ∷ ws) i = rw suc-add (time-later k ws i)
+time_later : (k : ℕ) (ws : List Write) (i : ℕ) → time_at (drop k ws) i ≡ time_at ws (k + i)
+time_later zero ws i = rw zero-add
+time_later (suc k) [] i = refl
+time_later (suc k) (w ∷ ws) i = rw suc-add (time_later k ws i)
 
-last-back : (n : ℕ) (ws : List Write) → NeverBack ws → NeverBack (last_of n ws)
-last-back n ws back i below =
+last_back : (n : ℕ) (ws : List Write) → NeverBack ws → NeverBack (last_of n ws)
+last_back n ws back i below =
     let before = length ws - n in
-    rw (time-later before ws i, time-later before ws (suc i), add-suc before i) (back (before + i) (omega (arith, length-drop before ws)))
+    rw (time_later before ws i, time_later before ws (suc i), add-suc before i) (back (before + i) (omega (arith, length-drop before ws)))
 
 -- what is held is shown
 module _ (mask k n : ℕ) (ws : List Write) (t : List ℕ) (some : 0 < n) (many : length ws ≡ k) (holds : Holds n mask ws t) where
   passed : first_broken (dump_rows t (header_of t)) ≡ Passed
-  passed = check-passed t (header_of t) (min (length ws) n) holds.sound
+  passed = check_passed t (header_of t) (min (length ws) n) holds.sound
 
-  listed-length : length (last_of n ws) ≡ min k n
-  listed-length = last-length some holds ∙ ap (λ (k : ℕ). min k n) many
+  listed_length : length (last_of n ws) ≡ min k n
+  listed_length = last_length some holds ∙ ap (λ (k : ℕ). min k n) many
 
   -- a stamp is the true time modulo the range
   stamps : (p : ℕ) → p < length (last_of n ws) → stamp_of t (header_of t) p ≡ time_at (last_of n ws) p % range (header_of t).mask
   unfolding slot_in cut given
   stamps p below =
-      ap (λ (slot : Slot). slot.stamp) (words_are some holds p (rw (last-length some holds) at below))
-      ∙ stamp-cut (header_of t).mask (get_or (last_of n ws) p no_write).time (mask-wide (header_of t) (length t) _ passed)
-      ∙ ap (λ (time : ℕ). time % range (header_of t).mask) (time-of (last_of n ws) p)
+      ap (λ (slot : Slot). slot.stamp) (words_are some holds p (rw (last_length some holds) at below))
+      ∙ stamp_cut (header_of t).mask (get_or (last_of n ws) p no_write).time (mask_wide (header_of t) (length t) _ passed)
+      ∙ ap (λ (time : ℕ). time % range (header_of t).mask) (time_of (last_of n ws) p)
 
-  reading-accepts : (r : Reading) → ReadingAccepted r (min (length ws) n) → Accepted (reading_rows r (event_count t (header_of t)))
+  reading_accepts : (r : Reading) → ReadingAccepted r (min (length ws) n) → Accepted (reading_rows r (event_count t (header_of t)))
   unfolding first_broken row14 row15
-  reading-accepts r reading =
-      rw (count-is some holds, ne_eqb r.rate 0 (λ none. omega (arith, reading.rate)), lt-leb (2 ^ 24) r.unit reading.unit, le-ltb (2 ^ 40) _ reading.serial)
+  reading_accepts r reading =
+      rw (count_is some holds, ne_eqb r.rate 0 (λ none. omega (arith, reading.rate)), lt-leb (2 ^ 24) r.unit reading.unit, le-ltb (2 ^ 40) _ reading.serial)
 
   module _ (file : Option (List ℕ)) (r : Reading) where
     abbrev text : List ℕ
@@ -117,16 +117,16 @@ module _ (mask k n : ℕ) (ws : List Write) (t : List ℕ) (some : 0 < n) (many 
     unfolding row16
     accepts room reading right fits =
         let last = row16 (length (listing_text file t (header_of t) r)) room in
-        sym (then-rest (dump_rows t (header_of t)) (listing_more file t (header_of t) r room) passed)
-        ∙ sym (then-rest (reading_rows r (event_count t (header_of t))) (file_rows file ++ (last ∷ [])) (reading-accepts r reading))
-        ∙ sym (then-rest (file_rows file) (last ∷ []) right) ∙ one_kept last (rw (text-is some holds file r) (le-ltb room _ fits))
+        sym (then_rest (dump_rows t (header_of t)) (listing_more file t (header_of t) r room) passed)
+        ∙ sym (then_rest (reading_rows r (event_count t (header_of t))) (file_rows file ++ (last ∷ [])) (reading_accepts r reading))
+        ∙ sym (then_rest (file_rows file) (last ∷ []) right) ∙ one_kept last (rw (text_is some holds file r) (le-ltb room _ fits))
 
     lists : (old new : List ℕ) (answer : Listed) → ReadingAccepted r (min k n) → Accepted (file_rows file) → length text ≤ length old
         → Gave (listing_rows file t (header_of t) r (length old)) (listing_text file t (header_of t) r) old new answer
         → (answer ≡ Written (length text)) × (new ≡ text ++ drop (length text) old)
     lists old new answer reading right fits gave =
         let all = accepts (length old) (subst (λ (k : ℕ). ReadingAccepted r (min k n)) (sym many) reading) right fits in
-        (gave.answered ∙ rw (all, text-is some holds file r), gave.output ∙ rw (all, text-is some holds file r))
+        (gave.answered ∙ rw (all, text_is some holds file r), gave.output ∙ rw (all, text_is some holds file r))
 
   pub shows : Shows mask k n ws t
   shows = record {
@@ -134,15 +134,15 @@ module _ (mask k n : ℕ) (ws : List Write) (t : List ℕ) (some : 0 < n) (many 
     lists = lists;
     ticks = λ back p below.
         ap (λ (mask : ℕ). shown_ticks t p + range mask * whole_ranges (range mask) (last_of n ws) p) (sym holds.mask_is)
-        ∙ ticks-gone t (header_of t) (last_of n ws) (last-back n ws back) stamps p (rw listed-length below);
+        ∙ ticks_gone t (header_of t) (last_of n ws) (last_back n ws back) stamps p (rw listed_length below);
     exact = λ back short p below.
-        ticks-exact t (header_of t) (last_of n ws) (last-back n ws back) stamps (λ i inside. rw holds.mask_is (short i (rw listed-length at inside))) p (rw listed-length below);
-    not-above = λ r p rate. not-above (shown_ticks t p) r.rate;
-    one_more = λ r p rate. not-below (shown_ticks t p) r.rate rate;
+        ticks_exact t (header_of t) (last_of n ws) (last_back n ws back) stamps (λ i inside. rw holds.mask_is (short i (rw listed_length at inside))) p (rw listed_length below);
+    not_above = λ r p rate. not_above (shown_ticks t p) r.rate;
+    one_more = λ r p rate. not_below (shown_ticks t p) r.rate rate;
   }
 
-pub third-demand : ThirdDemand recording
-third-demand k n f s calls word done typed none many =
+pub third_demand : ThirdDemand recording
+third_demand k n f s calls word done typed none many =
     let fresh = fresh_holds f s n word done in
     shows f.mask k n (accepted_writes recording calls (left (formatting f s) s)) (after recording calls (left (formatting f s) s)) fresh.0 many
-    (calls-hold n f.mask fresh.0 calls [] (left (formatting f s) s) typed none fresh.1)
+    (calls_hold n f.mask fresh.0 calls [] (left (formatting f s) s) typed none fresh.1)

@@ -46,19 +46,19 @@ unless refused accepted t (v ∷ values) = accepted t
 order_from : ℕ → Order
 order_from n = cond (eqb n 1) Big Little
 
-order-back : (o : Order) → order_from (order_number o) ≡ o
+order_back : (o : Order) → order_from (order_number o) ≡ o
 unfolding order_number order_from
-order-back Big = refl
-order-back Little = refl
+order_back Big = refl
+order_back Little = refl
 
 context_from : ℕ → Context
 context_from n = cond (eqb n 1) Init (cond (eqb n 2) Isr Thread)
 
-context-back : (c : Context) → context_from (context_number c) ≡ c
+context_back : (c : Context) → context_from (context_number c) ≡ c
 unfolding context_number context_from
-context-back Init = refl
-context-back Isr = refl
-context-back Thread = refl
+context_back Init = refl
+context_back Isr = refl
+context_back Thread = refl
 
 name_from : ℕ → ℕ → ℕ → Name
 name_from kind at length = cond (eqb kind 0) Nameless (cond (eqb kind 3) (Filed at length) (Named (cond (eqb kind 1) Live Gone) at length))
@@ -99,10 +99,10 @@ checked_from t = unless checked.Refused (λ t. checked.Sound (record {
   current = value_at t 9;
 }) (value_at t 10)) t t.values
 
-checked-back : (x : Checked) → checked_from (checked_told x) ≡ x
+checked_back : (x : Checked) → checked_from (checked_told x) ≡ x
 unfolding checked_from checked_told header_numbers
-checked-back (checked.Refused f) = refl
-checked-back (checked.Sound h n) = rw (order-back h.order)
+checked_back (checked.Refused f) = refl
+checked_back (checked.Sound h n) = rw (order_back h.order)
 
 found_from : Told → Found
 found_from t = unless found.Refused (λ t. found.Searched (name_from (value_at t 0) (value_at t 1) (value_at t 2))) t t.values
@@ -124,10 +124,10 @@ shown_from t = unless shown.Refused (λ t. shown.Given (record {
   title = name_from (value_at t 13) (value_at t 14) (value_at t 15);
 })) t t.values
 
-shown-back : (x : Shown) → shown_from (shown_told x) ≡ x
+shown_back : (x : Shown) → shown_from (shown_told x) ≡ x
 unfolding shown_from shown_told event_numbers slot_numbers
-shown-back (shown.Refused f) = refl
-shown-back (shown.Given e) = rw (context-back e.by, first_back e.name, second_back e.name e.title)
+shown_back (shown.Refused f) = refl
+shown_back (shown.Given e) = rw (context_back e.by, first_back e.name, second_back e.name e.title)
 
 listed_from : Told → Listed
 listed_from t = unless listed.Refused (λ t. listed.Written (value_at t 0)) t t.values
@@ -140,10 +140,10 @@ listed_back (listed.Written n) = refl
 outcome_from : Told → Outcome
 outcome_from t = unless outcome.Refused (λ t. outcome.Done (value_at t 0)) t t.values
 
-outcome-back : (x : Outcome) → outcome_from (outcome_told x) ≡ x
+outcome_back : (x : Outcome) → outcome_from (outcome_told x) ≡ x
 unfolding outcome_from outcome_told
-outcome-back (outcome.Refused f) = refl
-outcome-back (outcome.Done n) = refl
+outcome_back (outcome.Refused f) = refl
+outcome_back (outcome.Done n) = refl
 
 mended_from : Told → Mended
 mended_from t = unless mended.Refused (λ t. mended.Copied (value_at t 0) (record {
@@ -155,17 +155,17 @@ mended_from t = unless mended.Refused (λ t. mended.Copied (value_at t 0) (recor
   moved = value_at t 6;
 })) t t.values
 
-mended-back : (x : Mended) → mended_from (mended_told x) ≡ x
+mended_back : (x : Mended) → mended_from (mended_told x) ≡ x
 unfolding mended_from mended_told
-mended-back (mended.Refused f) = refl
-mended-back (mended.Copied n r) = refl
+mended_back (mended.Refused f) = refl
+mended_back (mended.Copied n r) = refl
 
-pub answers-tell : AnswersTell
-answers-tell = record {
-  checked = tells_all checked_told checked_from checked-back;
+pub answers_tell : AnswersTell
+answers_tell = record {
+  checked = tells_all checked_told checked_from checked_back;
   found = tells_all found_told found_from found_back;
-  shown = tells_all shown_told shown_from shown-back;
+  shown = tells_all shown_told shown_from shown_back;
   listed = tells_all listed_told listed_from listed_back;
-  outcome = tells_all outcome_told outcome_from outcome-back;
-  mended = tells_all mended_told mended_from mended-back;
+  outcome = tells_all outcome_told outcome_from outcome_back;
+  mended = tells_all mended_told mended_from mended_back;
 }

@@ -17,15 +17,15 @@ unfolding is_fault
 must true id = refl
 must false id = refl
 
-must-not : (used : Bool) (id : ℕ) → is_fault OutOfTurn used false id ≡ used
+must_not : (used : Bool) (id : ℕ) → is_fault OutOfTurn used false id ≡ used
 unfolding is_fault
-must-not true id = refl
-must-not false id = refl
+must_not true id = refl
+must_not false id = refl
 
 pub turns : (s : List ℕ) (h : Header) → Turns s h
 turns s h = record {
-  every-slot = λ e i. rw e (must (is_used s h i) _);
-  before-it = λ e i l. rw (e, lt-ltb i (current_slot h) l) (must (is_used s h i) _);
-  after-it = λ e i l. rw (e, le-ltb i (current_slot h) (omega arith)) (must-not (is_used s h i) _);
-  never-itself = rw (le-ltb (current_slot h) (current_slot h) (omega arith), or-false) (agreed (is_used s h (current_slot h)) _);
+  every_slot = λ e i. rw e (must (is_used s h i) _);
+  before_it = λ e i l. rw (e, lt-ltb i (current_slot h) l) (must (is_used s h i) _);
+  after_it = λ e i l. rw (e, le-ltb i (current_slot h) (omega arith)) (must_not (is_used s h i) _);
+  never_itself = rw (le-ltb (current_slot h) (current_slot h) (omega arith), or-false) (agreed (is_used s h (current_slot h)) _);
 }

@@ -24,9 +24,9 @@ word_at (v ∷ vs) are (suc i) below = word_at vs ((and-eq-true_iff (ltb v (2 ^ 
 abbrev words_in : Write → List ℕ
 words_in w = w.pointer ∷ w.field ∷ w.id ∷ w.first ∷ w.second ∷ w.third ∷ w.fourth ∷ []
 
-pub given-words : (w : Write) → are_words (words_in w) ≡ true → IsSlot (given w)
+pub given_words : (w : Write) → are_words (words_in w) ≡ true → IsSlot (given w)
 unfolding given
-given-words w are =
+given_words w are =
     let at = word_at (words_in w) are in
     record {
       pointer = at 0 (omega arith);

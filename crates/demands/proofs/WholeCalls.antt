@@ -15,16 +15,16 @@ use Rattle.words.specs.Each.{Each}
 use Rattle.words.specs.Masks.{width_to}
 use Rattle.words.specs.declared.Order.{Order}
 use Rattle.words.specs.declared.Order.TheVariants.{Big, Little}
-use Rattle.writing.proofs.Opened.{open-writing}
+use Rattle.writing.proofs.Opened.{open_writing}
 use Rattle.writing.proofs.Answers.{by-passing}
-use Rattle.writing.proofs.FreshBytes.{fresh-length}
+use Rattle.writing.proofs.FreshBytes.{fresh_length}
 use Rattle.writing.specs.Bytes.{entry_bytes, free_entry, header_bytes, slot_bytes}
 use Rattle.writing.specs.Table.{row24}
 use Rattle.writing.specs.Writing.{Change, formatting, fresh_bytes, fresh_header, left, recording, registering, said}
 use Rattle.writing.specs.declared.Outcome.TheVariants.{Done}
 use Rattle.demands.specs.History.{NeverBack, NoneFormats, Typed, accepted_writes, after, given}
 use Rattle.demands.specs.WholeCase.{first_write, four_writes, fourth_write, middle, newest, oldest, pump, second_write, third_write, whole_calls, whole_dump, whole_format, whole_fresh, whole_header}
-use Rattle.demands.proofs.Typed.{given-words}
+use Rattle.demands.proofs.Typed.{given_words}
 
 -- the dump with current at a slot, an entry, and three slots
 unfoldable dump : Order → ℕ → List ℕ → List ℕ → List ℕ → List ℕ → List ℕ
@@ -37,11 +37,11 @@ named : Order → List ℕ
 named o = entry_bytes o 8 pump (ascii "pump")
 
 -- the dump after each call: the last write takes the first one's slot
-abbrev fresh-dump : Order → List ℕ
-fresh-dump o = dump o 0x20000048 (free_entry 24) unused unused unused
+abbrev fresh_dump : Order → List ℕ
+fresh_dump o = dump o 0x20000048 (free_entry 24) unused unused unused
 
-abbrev with-pump : Order → List ℕ
-with-pump o = dump o 0x20000048 (named o) unused unused unused
+abbrev with_pump : Order → List ℕ
+with_pump o = dump o 0x20000048 (named o) unused unused unused
 
 abbrev with_first : Order → List ℕ
 with_first o = dump o 0x20000068 (named o) (slot_bytes o (given first_write)) unused unused
@@ -49,27 +49,27 @@ with_first o = dump o 0x20000068 (named o) (slot_bytes o (given first_write)) un
 abbrev with_second : Order → List ℕ
 with_second o = dump o 0x20000088 (named o) (slot_bytes o (given first_write)) (slot_bytes o oldest) unused
 
-abbrev with-third : Order → List ℕ
-with-third o = dump o 0x20000048 (named o) (slot_bytes o (given first_write)) (slot_bytes o oldest) (slot_bytes o middle)
+abbrev with_third : Order → List ℕ
+with_third o = dump o 0x20000048 (named o) (slot_bytes o (given first_write)) (slot_bytes o oldest) (slot_bytes o middle)
 
 -- a run as long as the list takes its place
-over-all : (vs s : List ℕ) → length vs ≡ length s → sets s 0 vs ≡ vs
-over-all vs s long = sets-eq vs s 0 (omega arith) ∙ rw (zero-add, long, drop-length) (append-nil vs)
+over_all : (vs s : List ℕ) → length vs ≡ length s → sets s 0 vs ≡ vs
+over_all vs s long = sets-eq vs s 0 (omega arith) ∙ rw (zero-add, long, drop-length) (append-nil vs)
 
-fresh : (o : Order) → fresh_bytes (whole_format o) 168 ≡ fresh-dump o
-unfolding open-writing whole_header whole_format dump unused
+fresh : (o : Order) → fresh_bytes (whole_format o) 168 ≡ fresh_dump o
+unfolding open_writing whole_header whole_format dump unused
 fresh Big = refl
 fresh Little = refl
 
-format-passes : (o : Order) (s : List ℕ) → length s ≡ 168 → first_broken (formatting (whole_format o) s).rows ≡ Passed
+format_passes : (o : Order) (s : List ℕ) → length s ≡ 168 → first_broken (formatting (whole_format o) s).rows ≡ Passed
 unfolding width_to first_broken slot_size row2 row4 row5 row24 formatting fresh_header whole_format
-format-passes o s e = rw e refl
+format_passes o s e = rw e refl
 
-formatted : (o : Order) (s : List ℕ) → length s ≡ 168 → whole_fresh o s ≡ fresh-dump o
+formatted : (o : Order) (s : List ℕ) → length s ≡ 168 → whole_fresh o s ≡ fresh_dump o
 unfolding slot_size formatting fresh_header whole_format
 formatted o s e =
-    sym (by-passing (formatting (whole_format o) s) s (format-passes o s e)).1
-    ∙ rw e (over-all (fresh_bytes (whole_format o) 168) s (fresh-length (whole_format o) 168 ∙ sym e))
+    sym (by-passing (formatting (whole_format o) s) s (format_passes o s e)).1
+    ∙ rw e (over_all (fresh_bytes (whole_format o) 168) s (fresh_length (whole_format o) 168 ∙ sym e))
     ∙ fresh o
 
 -- a call is accepted, and what it gives and leaves of a buffer
@@ -77,45 +77,45 @@ abbrev Did : (List ℕ → Change) → List ℕ → ℕ → List ℕ → Type 0
 Did change s n t = (said (change s) ≡ Done n) × (left (change s) s ≡ t)
 
 record Steps (o : Order) : Type 0 where
-  pumped : Did (registering pump (ascii "pump")) (fresh-dump o) 0 (with-pump o)
-  first : Did (recording (given first_write)) (with-pump o) 0 (with_first o)
+  pumped : Did (registering pump (ascii "pump")) (fresh_dump o) 0 (with_pump o)
+  first : Did (recording (given first_write)) (with_pump o) 0 (with_first o)
   second : Did (recording (given second_write)) (with_first o) 1 (with_second o)
-  third : Did (recording (given third_write)) (with_second o) 2 (with-third o)
-  fourth : Did (recording (given fourth_write)) (with-third o) 0 (whole_dump o)
+  third : Did (recording (given third_write)) (with_second o) 2 (with_third o)
+  fourth : Did (recording (given fourth_write)) (with_third o) 0 (whole_dump o)
 
 steps : (o : Order) → Steps o
-unfolding open-writing given first_write second_write third_write fourth_write whole_header pump oldest middle newest whole_dump dump unused named
+unfolding open_writing given first_write second_write third_write fourth_write whole_header pump oldest middle newest whole_dump dump unused named
 steps Big = record { pumped = (refl, refl); first = (refl, refl); second = (refl, refl); third = (refl, refl); fourth = (refl, refl) }
 steps Little = record { pumped = (refl, refl); first = (refl, refl); second = (refl, refl); third = (refl, refl); fourth = (refl, refl) }
 
 -- formatting gives three slots
-pub three-slots : (o : Order) (s : List ℕ) → length s ≡ 168 → said (formatting (whole_format o) s) ≡ Done 3
+pub three_slots : (o : Order) (s : List ℕ) → length s ≡ 168 → said (formatting (whole_format o) s) ≡ Done 3
 unfolding slot_size formatting fresh_header whole_format
-three-slots o s e = sym (by-passing (formatting (whole_format o) s) s (format-passes o s e)).0 ∙ rw e
+three_slots o s e = sym (by-passing (formatting (whole_format o) s) s (format_passes o s e)).0 ∙ rw e
 
 -- what the third demand supposes of the calls
-pub calls-typed : Each Typed whole_calls
+pub calls_typed : Each Typed whole_calls
 unfolding pump first_write second_write third_write fourth_write
-calls-typed = (omega arith, (given-words first_write refl, (given-words second_write refl, (given-words third_write refl, (given-words fourth_write refl, tt)))))
+calls_typed = (omega arith, (given_words first_write refl, (given_words second_write refl, (given_words third_write refl, (given_words fourth_write refl, tt)))))
 
-pub none-formats : (s : List ℕ) → NoneFormats recording whole_calls s
-none-formats s = (tt, (tt, (tt, (tt, (tt, tt)))))
+pub none_formats : (s : List ℕ) → NoneFormats recording whole_calls s
+none_formats s = (tt, (tt, (tt, (tt, (tt, tt)))))
 
-pub times-rise : NeverBack four_writes
+pub times_rise : NeverBack four_writes
 unfolding first_write second_write third_write fourth_write
-times-rise zero below = omega arith
-times-rise (suc zero) below = omega arith
-times-rise (suc (suc zero)) below = omega arith
-times-rise (suc (suc (suc i))) below = absurd (omega arith)
+times_rise zero below = omega arith
+times_rise (suc zero) below = omega arith
+times_rise (suc (suc zero)) below = omega arith
+times_rise (suc (suc (suc i))) below = absurd (omega arith)
 
-pub calls-make : (o : Order) (s : List ℕ) → length s ≡ 168 → after recording whole_calls (whole_fresh o s) ≡ whole_dump o
-calls-make o s long =
+pub calls_make : (o : Order) (s : List ℕ) → length s ≡ 168 → after recording whole_calls (whole_fresh o s) ≡ whole_dump o
+calls_make o s long =
     let did = steps o in
     ap (after recording whole_calls) (formatted o s long)
     ∙ rw (did.pumped.1, did.first.1, did.second.1, did.third.1) did.fourth.1
 
-pub writes-accepted : (o : Order) (s : List ℕ) → length s ≡ 168 → accepted_writes recording whole_calls (whole_fresh o s) ≡ four_writes
-writes-accepted o s long =
+pub writes_accepted : (o : Order) (s : List ℕ) → length s ≡ 168 → accepted_writes recording whole_calls (whole_fresh o s) ≡ four_writes
+writes_accepted o s long =
     let did = steps o in
     ap (accepted_writes recording whole_calls) (formatted o s long)
     ∙ rw (did.pumped.1, did.first.0, did.first.1, did.second.0, did.second.1, did.third.0, did.third.1, did.fourth.0)

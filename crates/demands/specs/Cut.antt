@@ -40,14 +40,14 @@ CutShort h n k = Accepted (before_ends h n) × MissedEnd h n k
 
 -- where 1 to 6 pass, an end that is not right, as one above 65,536, is nonsense and gets 7 or 9, whatever the length
 pub record NonsenseEnd (s : List ℕ) : Type 0 where
-  pub of-registry : (RightRegistry (header_of s) → ⊥) → AllRefused s (given_at 7 0)
-  pub of-buffer : RegistryThere (header_of s) (length s) → (RightBuffer (header_of s) → ⊥) → AllRefused s (given_at 9 0)
+  pub of_registry : (RightRegistry (header_of s) → ⊥) → AllRefused s (given_at 7 0)
+  pub of_buffer : RegistryThere (header_of s) (length s) → (RightBuffer (header_of s) → ⊥) → AllRefused s (given_at 9 0)
 
 -- what the first n bytes of a dump get: 1 within the header, 26 before either end with what is missing up to it, and from the buffer end on what the whole dump gets
 pub record CutAt (s : List ℕ) (n : ℕ) : Type 0 where
-  pub in-header : n < header_size → AllRefused (take n s) (given_at 1 0)
+  pub in_header : n < header_size → AllRefused (take n s) (given_at 1 0)
   pub in-registry : header_size ≤ n → n < registry_end (header_of s) → AllRefused (take n s) (given_at 26 (registry_end (header_of s) - n))
-  pub in-slots : registry_end (header_of s) ≤ n → n < buffer_end (header_of s) → AllRefused (take n s) (given_at 26 (buffer_end (header_of s) - n))
+  pub in_slots : registry_end (header_of s) ≤ n → n < buffer_end (header_of s) → AllRefused (take n s) (given_at 26 (buffer_end (header_of s) - n))
   pub whole : buffer_end (header_of s) ≤ n → SameAnswers s (take n s)
 
 -- what is so of any bytes appended to a dump that gets 26 with the place k

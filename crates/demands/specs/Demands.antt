@@ -72,7 +72,7 @@ pub record FirstDemand : Type 0 where
   -- calls that are lent a dump to be read, and maybe a name file (document 02, A7)
   pub checking : (s : List ℕ) → Refuses (dump_rows s (header_of s)) (checked_told (check_of s))
   pub finding : (s : List ℕ) (pointer : ℕ) → Refuses (registry_rows s (header_of s)) (found_told (find_name s pointer))
-  pub finding-with : (file : Option (List ℕ)) (s : List ℕ) (pointer : ℕ) → Refuses (finding_rows file s (header_of s)) (found_told (find_name_with file s pointer))
+  pub finding_with : (file : Option (List ℕ)) (s : List ℕ) (pointer : ℕ) → Refuses (finding_rows file s (header_of s)) (found_told (find_name_with file s pointer))
   pub event : (file : Option (List ℕ)) (s : List ℕ) (position : ℕ) → Refuses (event_rows file s (header_of s) position) (shown_told (event_of file s position))
   -- calls that are lent output too
   pub listing : (file : Option (List ℕ)) (s : List ℕ) (r : Reading) (old new : List ℕ) (answer : Listed)
@@ -93,14 +93,14 @@ pub record FirstDemand : Type 0 where
       RefusesAndKeeps rows old (left_in old (first_broken rows) (copy_of s (header_of s))) (mended_told (mend_of s (length old)))
   -- what 1 to 9 refuse, save 26 at the buffer end, every call that reads a trace buffer refuses alike, and so does mending; where 1 to 6 pass, the registry is there and
   -- the buffer's end is right, whether or not the slots came, it takes whatever dump there is room for, and less room gives 16
-  pub mending-alike : (s : List ℕ) (f : Refusal) → first_broken (layout_rows (header_of s) (length s)) ≡ Refused f
+  pub mending_alike : (s : List ℕ) (f : Refusal) → first_broken (layout_rows (header_of s) (length s)) ≡ Refused f
       → AllRefused s f × ((room : ℕ) → mend_of s room ≡ mended.Refused f)
-  pub mending-takes : (s : List ℕ) (room : ℕ) → Accepted (before_ends (header_of s) (length s)) → RegistryThere (header_of s) (length s) → RightBuffer (header_of s)
+  pub mending_takes : (s : List ℕ) (room : ℕ) → Accepted (before_ends (header_of s) (length s)) → RegistryThere (header_of s) (length s) → RightBuffer (header_of s)
       → (buffer_end (header_of s) ≤ room → Accepted (mending_rows s (header_of s) room)) × (room < buffer_end (header_of s) → mend_of s room ≡ mended.Refused (given_at 16 0))
   -- 26 is given exactly where an end offset is otherwise right but beyond the dump's length, and callers but mending pass it on; a nonsense end
   -- gets 7 or 9 (document 02, A1)
-  pub says-cut : (s : List ℕ) (k : ℕ) → CutShort (header_of s) (length s) k → AllRefused s (given_at 26 k)
-  pub only-cut : (s : List ℕ) (k : ℕ) → SomeRefused s (given_at 26 k) → CutShort (header_of s) (length s) k
+  pub says_cut : (s : List ℕ) (k : ℕ) → CutShort (header_of s) (length s) k → AllRefused s (given_at 26 k)
+  pub only_cut : (s : List ℕ) (k : ℕ) → SomeRefused s (given_at 26 k) → CutShort (header_of s) (length s) k
   pub nonsense : (s : List ℕ) → Accepted (before_ends (header_of s) (length s)) → NonsenseEnd s
   -- a dump that was cut says so: the first n bytes of any that passes 1 to 10, whatever later rows say of it
   pub cut : (s : List ℕ) (n : ℕ) → Accepted (header_rows (header_of s) (length s)) → CutAt s n
@@ -116,18 +116,18 @@ pub record FirstDemand : Type 0 where
 pub record SecondDemand : Type 0 where
   -- "Reading follows chapter 11 of the ThreadX guide as 01 condenses it, for both byte orders, and so does the writer that formats, records and registers."
   -- what is written is read back
-  pub one-description : Layouts
+  pub one_description : Layouts
   -- the id, the mask, offsets, the used/unused rule, order and time, and names, in the documents' words
   pub patterns : (s : List ℕ) → AreBytes s → Patterns s
   pub masks : Masks
   pub offsets : Offsets
   pub turns : (s : List ℕ) (h : Header) → Turns s h
-  pub order-and-time : (s : List ℕ) (h : Header) → Accepted (dump_rows s h) → OrderAndTime s h
+  pub order_and_time : (s : List ℕ) (h : Header) → Accepted (dump_rows s h) → OrderAndTime s h
   pub names : (s : List ℕ) → Names s
   -- names from the build (document 02, A7)
-  pub name-files : NameFiles
+  pub name_files : NameFiles
   -- reserved fields and bytes past the buffer end are not read
-  pub not-read : (s t : List ℕ) → DifferOnlyThere s t → SameAnswers s t
+  pub not_read : (s t : List ℕ) → DifferOnlyThere s t → SameAnswers s t
   -- so bytes appended past both ends change no answer of the calls that read, nor what recording, registering and removing say, as long as the whole
   -- stays at most 65,536 bytes
   pub appended : (s more : List ℕ) → Whole (header_of s) (length s) → length (s ++ more) ≤ most_bytes → SameAnswers s (s ++ more)
@@ -154,7 +154,7 @@ pub record SecondDemand : Type 0 where
   -- each line is ended by byte 0A and has no other; an empty ring gives no bytes
   pub one_line : (file : Option (List ℕ)) (s : List ℕ) (h : Header) (r : Reading) (position : ℕ)
       → (body : List ℕ) × (line_at file s h r position ≡ body ++ (0x0A ∷ [])) × Each (λ c. c ≡ 0x0A → ⊥) body
-  pub empty-ring : (file : Option (List ℕ)) (s : List ℕ) (h : Header) (r : Reading) → event_count s h ≡ 0 → listing_text file s h r ≡ []
+  pub empty_ring : (file : Option (List ℕ)) (s : List ℕ) (h : Header) (r : Reading) → event_count s h ≡ 0 → listing_text file s h r ≡ []
   -- "JSON is RFC 8259.": each line without its 0A is an object by its grammar, with the members of document 01, "gone" and, with a name file, "event", and the
   -- numbers of a text are those that `json_numbers` finds
   pub json : JsonLines
@@ -165,11 +165,11 @@ pub record SecondDemand : Type 0 where
   pub numbers : (file : Option (List ℕ)) (s : List ℕ) (r : Reading) (old new : List ℕ) (n : ℕ)
       → Gave (listing_rows file s (header_of s) r (length old)) (listing_text file s (header_of s) r) old new (listed.Written n)
       → json_numbers (take n new) ≡ map digits (keep is_bare (listed_numbers file s (header_of s) r))
-  pub line-numbers : (file : Option (List ℕ)) (s : List ℕ) (r : Reading) (position : ℕ) (old new : List ℕ) (n : ℕ)
+  pub line_numbers : (file : Option (List ℕ)) (s : List ℕ) (r : Reading) (position : ℕ) (old new : List ℕ) (n : ℕ)
       → Gave (line_rows file s (header_of s) r position (length old)) (line_at file s (header_of s) r position) old new (listed.Written n)
       → json_numbers (take n new) ≡ map digits (keep is_bare (numbers_of (fields r position (event_at file s (header_of s) position))))
   -- a bare number is below two to the fifty-third, and no other number has its double
-  pub bare-numbers : BareNumbers
+  pub bare_numbers : BareNumbers
   -- events have keys of their own, also as a page reads them
   pub keys : Keys
 
@@ -196,7 +196,7 @@ pub record Shows (mask k n : ℕ) (writes : List Write) (t : List ℕ) : Type 0 
       → (p : ℕ) → p < min k n → shown_ticks t p ≡ since_oldest (last_of n writes) p
   -- "The shown microseconds never pass the shown ticks' exact time and fall short of it by less than one:
   -- times the rate they are at most the ticks times 1,000,000, and with one more they would be above."
-  pub not-above : (r : Reading) (p : ℕ) → 1 ≤ r.rate → shown_microseconds t r p * r.rate ≤ shown_ticks t p * 1000000
+  pub not_above : (r : Reading) (p : ℕ) → 1 ≤ r.rate → shown_microseconds t r p * r.rate ≤ shown_ticks t p * 1000000
   pub one_more : (r : Reading) (p : ℕ) → 1 ≤ r.rate → shown_ticks t p * 1000000 < suc (shown_microseconds t r p) * r.rate
 
 -- "Take a freshly formatted buffer of n slots and k accepted writes at true times that never go back, each write given its time modulo two to the 32;

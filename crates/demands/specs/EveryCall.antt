@@ -42,15 +42,15 @@ pub record AllRefused (s : List ℕ) (f : Refusal) : Type 0 where
 
 -- some call that reads a trace buffer is refused by this number and place, mending among them
 pub data SomeRefused (s : List ℕ) (f : Refusal) : Type 0 where
-  by-check : check_of s ≡ checked.Refused f → SomeRefused s f
+  by_check : check_of s ≡ checked.Refused f → SomeRefused s f
   by_name : (pointer : ℕ) → find_name s pointer ≡ found.Refused f → SomeRefused s f
-  by_name-with : (file : Option (List ℕ)) (pointer : ℕ) → find_name_with file s pointer ≡ found.Refused f → SomeRefused s f
-  by-event : (file : Option (List ℕ)) (position : ℕ) → event_of file s position ≡ shown.Refused f → SomeRefused s f
-  by-listing : (file : Option (List ℕ)) (r : Reading) (old new : List ℕ)
+  by_name_with : (file : Option (List ℕ)) (pointer : ℕ) → find_name_with file s pointer ≡ found.Refused f → SomeRefused s f
+  by_event : (file : Option (List ℕ)) (position : ℕ) → event_of file s position ≡ shown.Refused f → SomeRefused s f
+  by_listing : (file : Option (List ℕ)) (r : Reading) (old new : List ℕ)
       → Gave (listing_rows file s (header_of s) r (length old)) (listing_text file s (header_of s) r) old new (listed.Refused f) → SomeRefused s f
-  by-line : (file : Option (List ℕ)) (r : Reading) (position : ℕ) (old new : List ℕ)
+  by_line : (file : Option (List ℕ)) (r : Reading) (position : ℕ) (old new : List ℕ)
       → Gave (line_rows file s (header_of s) r position (length old)) (line_at file s (header_of s) r position) old new (listed.Refused f) → SomeRefused s f
-  by-recording : (slot : Slot) → said (recording slot s) ≡ outcome.Refused f → SomeRefused s f
-  by-registering : (object : Object) (name : List ℕ) → said (registering object name s) ≡ outcome.Refused f → SomeRefused s f
-  by-removing : (pointer : ℕ) → said (removing pointer s) ≡ outcome.Refused f → SomeRefused s f
-  by-mending : (room : ℕ) → mend_of s room ≡ mended.Refused f → SomeRefused s f
+  by_recording : (slot : Slot) → said (recording slot s) ≡ outcome.Refused f → SomeRefused s f
+  by_registering : (object : Object) (name : List ℕ) → said (registering object name s) ≡ outcome.Refused f → SomeRefused s f
+  by_removing : (pointer : ℕ) → said (removing pointer s) ≡ outcome.Refused f → SomeRefused s f
+  by_mending : (room : ℕ) → mend_of s room ≡ mended.Refused f → SomeRefused s f

@@ -46,13 +46,13 @@ abbrev pub CountsAs : (List ℕ → ℕ) → Type 0
 CountsAs invented = (s : List ℕ) → check_of s ≡ checked_by (first_broken (dump_rows s (header_of s))) (header_of s) (invented s)
 
 pub record Fakes : Type 0 where
-  pub refuses-everything : RefusesEverything → ⊥
-  pub lists-nothing : ListsNothing → ⊥
+  pub refuses_everything : RefusesEverything → ⊥
+  pub lists_nothing : ListsNothing → ⊥
   -- by the promise of recording (demand 2), and by demand 3
-  pub untouched-promise : ((slot : Slot) (s : List ℕ) → left (recording slot s) s ≡ left (untouched slot s) s) → ⊥
-  pub untouched-demand : ThirdDemand untouched → ⊥
+  pub untouched_promise : ((slot : Slot) (s : List ℕ) → left (recording slot s) s ≡ left (untouched slot s) s) → ⊥
+  pub untouched_demand : ThirdDemand untouched → ⊥
   -- by demand 3 at k = 2, n = 2
   pub first-only : ThirdDemandAt 2 2 first_only → ⊥
   -- a count that is right is the number of used slots, of every dump that passes
-  pub invented-count : (invented : List ℕ → ℕ) → CountsAs invented → (s : List ℕ) (h : Header) (n : ℕ) → check_of s ≡ Sound h n
+  pub invented_count : (invented : List ℕ → ℕ) → CountsAs invented → (s : List ℕ) (h : Header) (n : ℕ) → check_of s ≡ Sound h n
       → invented s ≡ event_count s (header_of s)

@@ -21,12 +21,12 @@ pub data Minus : List ℕ → Type 0 where
 
 -- int = zero / ( digit1-9 *DIGIT ), zero = %x30, digit1-9 = %x31-39
 pub data Int : List ℕ → Type 0 where
-  zero-alone : Int (0x30 ∷ [])
+  zero_alone : Int (0x30 ∷ [])
   from_one : {c : ℕ} {more : List ℕ} → 0x31 ≤ c → c ≤ 0x39 → Digits more → Int (c ∷ more)
 
 -- [ frac ], frac = decimal-point 1*DIGIT, decimal-point = %x2E
 pub data Frac : List ℕ → Type 0 where
-  no-frac : Frac []
+  no_frac : Frac []
   frac : {c : ℕ} {more : List ℕ} → IsDigit c → Digits more → Frac (0x2E ∷ c ∷ more)
 
 -- [ minus / plus ], plus = %x2B
@@ -37,7 +37,7 @@ pub data Sign : List ℕ → Type 0 where
 
 -- [ exp ], exp = e [ minus / plus ] 1*DIGIT, e = %x65 / %x45
 pub data Exp : List ℕ → Type 0 where
-  no-exp : Exp []
+  no_exp : Exp []
   exp : {e c : ℕ} {sign more : List ℕ} → (e ≡ 0x65) ⊎ (e ≡ 0x45) → Sign sign → IsDigit c → Digits more → Exp (e ∷ sign ++ (c ∷ more))
 
 -- number = [ minus ] int [ frac ] [ exp ]
@@ -53,19 +53,19 @@ IsHexDigit c = IsDigit c ⊎ ((0x41 ≤ c) × (c ≤ 0x46)) ⊎ ((0x61 ≤ c) ×
 -- what may stand behind a backslash: %x22 / %x5C / %x2F / %x62 / %x66 / %x6E / %x72 / %x74
 pub data Escaped : ℕ → Type 0 where
   quotation : Escaped 0x22
-  reverse-solidus : Escaped 0x5C
+  reverse_solidus : Escaped 0x5C
   solidus : Escaped 0x2F
   backspace : Escaped 0x62
-  form-feed : Escaped 0x66
-  line-feed : Escaped 0x6E
-  carriage-return : Escaped 0x72
+  form_feed : Escaped 0x66
+  line_feed : Escaped 0x6E
+  carriage_return : Escaped 0x72
   tab : Escaped 0x74
 
 -- char = unescaped / escape ( .. / %x75 4HEXDIG ), unescaped = %x20-21 / %x23-5B / %x5D-10FFFF, of which those up to 7F, escape = %x5C
 pub data Char : List ℕ → Type 0 where
   unescaped : {c : ℕ} → 0x20 ≤ c → c ≤ 0x7F → (c ≡ 0x22 → ⊥) → (c ≡ 0x5C → ⊥) → Char (c ∷ [])
   escape : {c : ℕ} → Escaped c → Char (0x5C ∷ c ∷ [])
-  escape-hex : {a b c d : ℕ} → IsHexDigit a → IsHexDigit b → IsHexDigit c → IsHexDigit d → Char (0x5C ∷ 0x75 ∷ a ∷ b ∷ c ∷ d ∷ [])
+  escape_hex : {a b c d : ℕ} → IsHexDigit a → IsHexDigit b → IsHexDigit c → IsHexDigit d → Char (0x5C ∷ 0x75 ∷ a ∷ b ∷ c ∷ d ∷ [])
 
 -- *char
 pub data Chars : List ℕ → Type 0 where
@@ -74,7 +74,7 @@ pub data Chars : List ℕ → Type 0 where
 
 -- string = quotation-mark *char quotation-mark, quotation-mark = %x22
 pub data Str : List ℕ → Type 0 where
-  string-of : {inside : List ℕ} → Chars inside → Str (0x22 ∷ inside ++ (0x22 ∷ []))
+  string_of : {inside : List ℕ} → Chars inside → Str (0x22 ∷ inside ++ (0x22 ∷ []))
 
 -- SECTION 3: VALUES
 

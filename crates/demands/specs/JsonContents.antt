@@ -5,7 +5,7 @@ use Rattle.demands.specs.Json.{Members, Str, Value, Values, json_text}
 
 -- a string's characters as they are written, without the quotation marks
 abbrev pub inside : {text : List ℕ} → Str text → List ℕ
-inside (json.string-of {inside} all) = inside
+inside (json.string_of {inside} all) = inside
 
 -- an object's members, in their order: the name's characters and the value's text
 pub record Member : Type 0 where

@@ -64,7 +64,7 @@ Distinct (a ∷ more) = Each (λ b. a ≡ b → ⊥) more × Distinct more
 -- a text is the object with a line's members, and byte 0A; its numbers are the digits of the line's bare ones
 pub record IsObject (l : Line) (event : Option (Option (List ℕ))) (n : Option (List ℕ)) (text : List ℕ) : Type 0 where
   pub members : Members
-  pub is-text : text ≡ json_text (object members) ++ (0x0A ∷ [])
+  pub is_text : text ≡ json_text (object members) ++ (0x0A ∷ [])
   pub are : members_of members ≡ line_members l event n
   pub numbers : numbers_in_value (object members) ≡ map digits (keep is_bare (numbers_of l))
 
@@ -74,13 +74,13 @@ IsTitle none = Unit {0}
 IsTitle (some title) = IsName title
 
 pub record JsonLines : Type 0 where
-  pub line-object : (l : Line) (event : Option (Option (List ℕ))) (n : Option (List ℕ)) → IsTitle event → IsName n → IsObject l event n (line l event n)
+  pub line_object : (l : Line) (event : Option (Option (List ℕ))) (n : Option (List ℕ)) → IsTitle event → IsName n → IsObject l event n (line l event n)
   -- so is every line of a dump, which is of bytes, as a name file is
-  pub listed-object : (file : Option (List ℕ)) (s : List ℕ) (h : Header) (r : Reading) (position : ℕ) → AreBytes s → AreBytes (file_bytes file)
+  pub listed_object : (file : Option (List ℕ)) (s : List ℕ) (h : Header) (r : Reading) (position : ℕ) → AreBytes s → AreBytes (file_bytes file)
       → let event = event_at file s h position in
       IsObject (fields r position event) (title_in file s event) (name_bytes file s event.name) (line_at file s h r position)
   -- no two members have one name
-  pub names-distinct : (l : Line) (event : Option (Option (List ℕ))) (n : Option (List ℕ)) → Distinct (map (λ m. m.name) (line_members l event n))
+  pub names_distinct : (l : Line) (event : Option (Option (List ℕ))) (n : Option (List ℕ)) → Distinct (map (λ m. m.name) (line_members l event n))
   -- the numbers of any text of the grammar are those that `json_numbers` finds in it, also where 0A and more follow
-  pub numbers-found : (value : Value) → json_numbers (json_text value) ≡ numbers_in_value value
-  pub numbers-found-first : (value : Value) (more : List ℕ) → json_numbers (json_text value ++ (0x0A ∷ more)) ≡ numbers_in_value value ++ json_numbers more
+  pub numbers_found : (value : Value) → json_numbers (json_text value) ≡ numbers_in_value value
+  pub numbers_found_first : (value : Value) (more : List ℕ) → json_numbers (json_text value ++ (0x0A ∷ more)) ≡ numbers_in_value value ++ json_numbers more

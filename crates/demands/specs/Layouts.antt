@@ -18,11 +18,11 @@ pub record EntryRead (o : Order) (object : Object) (name : List ℕ) (size : ℕ
   pub flag : get_or t at 0 ≡ 0
   pub in_use : is_in_use t at ≡ true
   pub type : type_at t at ≡ object.object_type
-  pub reserved-one : get_or t (at + 2) 0 ≡ if_thread object object.reserved_one
-  pub reserved-two : get_or t (at + 3) 0 ≡ if_thread object object.reserved_two
+  pub reserved_one : get_or t (at + 2) 0 ≡ if_thread object object.reserved_one
+  pub reserved_two : get_or t (at + 3) 0 ≡ if_thread object object.reserved_two
   pub pointer : pointer_at o t at ≡ object.pointer
-  pub parameter-one : word_at o t (at + 8) ≡ object.parameter_one
-  pub parameter-two : word_at o t (at + 12) ≡ object.parameter_two
+  pub parameter_one : word_at o t (at + 8) ≡ object.parameter_one
+  pub parameter_two : word_at o t (at + 12) ≡ object.parameter_two
   -- the name, cut to the name size and padded with zeros
   pub name-bytes : take size (drop (at + name_offset) t) ≡ take size name ++ replicate (size - length name) 0
 

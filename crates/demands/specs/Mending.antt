@@ -84,12 +84,12 @@ pub record Mends (s t : List ℕ) (h : Header) (r : Repairs) : Type 0 where
   pub in_place : are_out s h ≡ false → InPlace s t h
   pub packed : are_out s h ≡ true → Packed s t h
   -- so each count is the number of places that were changed for that reason
-  pub missing-count : r.missing ≡ count (λ i. not (is_whole s h i)) (slot_count h)
-  pub current-count : r.current ≡ cond (row10 h).broken 1 0
-  pub types-count : r.types ≡ count (is_wanted BadType s h) (entry_count h)
-  pub ids-count : r.ids ≡ count (lacks_id s h) (slot_count h)
-  pub packed-count : r.packed ≡ cond (are_out s h) 1 0
-  pub moved-count : r.moved ≡ cond (are_out s h) (count (λ p. not (eqb (get_or (came_of s) p 0) p)) (length (came_of s))) 0
+  pub missing_count : r.missing ≡ count (λ i. not (is_whole s h i)) (slot_count h)
+  pub current_count : r.current ≡ cond (row10 h).broken 1 0
+  pub types_count : r.types ≡ count (is_wanted BadType s h) (entry_count h)
+  pub ids_count : r.ids ≡ count (lacks_id s h) (slot_count h)
+  pub packed_count : r.packed ≡ cond (are_out s h) 1 0
+  pub moved_count : r.moved ≡ cond (are_out s h) (count (λ p. not (eqb (get_or (came_of s) p 0) p)) (length (came_of s))) 0
   -- nothing is invented and nothing sound is lost: the events are the slots that came, in their order, with all their bytes and so all their words
   pub events : (p : ℕ) → p < length (came_of s) → SameAt s (slot_at h (get_or (came_of s) p 0)) t (slot_at h (slot_of t (header_of t) p)) (slot_size h)
   pub words : (p : ℕ) → p < length (came_of s) → slot_in h.order t (slot_at h (slot_of t (header_of t) p)) ≡ slot_in h.order s (slot_at h (get_or (came_of s) p 0))

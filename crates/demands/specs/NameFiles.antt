@@ -137,15 +137,15 @@ sample_records =
 
 pub record NameFiles : Type 0 where
   -- the bytes of a file, as they are written and read
-  pub sample-written : written_from 0 sample_records (replicate 21 0) ≡ sample
-  pub sample-event : name_in Event (some sample) 1025 ≡ Filed 8 2
-  pub sample-thread : name_in Thread (some sample) 0x20002000 ≡ Filed 18 3
+  pub sample_written : written_from 0 sample_records (replicate 21 0) ≡ sample
+  pub sample_event : name_in Event (some sample) 1025 ≡ Filed 8 2
+  pub sample_thread : name_in Thread (some sample) 0x20002000 ≡ Filed 18 3
   -- "A file above 65,536 bytes gives 2", damaged or not
   pub too_long : (f : List ℕ) → 65536 < length f → first_broken (file_rows (some f)) ≡ Refused (given_at 2 0)
   -- "28 if it would end past 65,536, then 16 if past the buffer", at any offset; otherwise the record is written
-  pub past-most : (subject : Subject) (number offset : ℕ) (name s : List ℕ) → 65536 < offset + (8 + length name)
+  pub past_most : (subject : Subject) (number offset : ℕ) (name s : List ℕ) → 65536 < offset + (8 + length name)
       → said (filing subject number name offset s) ≡ outcome.Refused (given_at 28 0)
-  pub past-buffer : (subject : Subject) (number offset : ℕ) (name s : List ℕ) → offset + (8 + length name) ≤ 65536 → length s < offset + (8 + length name)
+  pub past_buffer : (subject : Subject) (number offset : ℕ) (name s : List ℕ) → offset + (8 + length name) ≤ 65536 → length s < offset + (8 + length name)
       → said (filing subject number name offset s) ≡ outcome.Refused (given_at 16 0)
   pub fits : (subject : Subject) (number offset : ℕ) (name s : List ℕ) → offset + (8 + length name) ≤ 65536 → offset + (8 + length name) ≤ length s
       → said (filing subject number name offset s) ≡ Done (8 + length name)
@@ -155,8 +155,8 @@ pub record NameFiles : Type 0 where
   pub refused : (f : List ℕ) (at : ℕ) → length f ≤ 65536 → IsDamaged f at → (place : ℕ) × (first_broken (file_rows (some f)) ≡ Refused (given_at 27 place))
   pub accepted : (f : List ℕ) → length f ≤ 65536 → ((at : ℕ) → IsDamaged f at → ⊥) → Accepted (file_rows (some f))
   -- and so the calls that are given a file are refused by it, and by an accepted one are not
-  pub refused-by : (f s : List ℕ) (x : Refusal) → first_broken (file_rows (some f)) ≡ Refused x → RefusedByFile f s x
-  pub passed-by : (f s : List ℕ) → Accepted (file_rows (some f)) → PassedByFile f s
+  pub refused_by : (f s : List ℕ) (x : Refusal) → first_broken (file_rows (some f)) ≡ Refused x → RefusedByFile f s x
+  pub passed_by : (f s : List ℕ) → Accepted (file_rows (some f)) → PassedByFile f s
   -- a name is that of the first record for the id or the pointer; there is one wherever there is such a record, and otherwise none
   pub named : (subject : Subject) (f : List ℕ) (number at size : ℕ) → Accepted (file_rows (some f)) → record_name subject f number ≡ Filed at size → IsFirst subject number f at size
   pub recorded : (subject : Subject) (f : List ℕ) (number at : ℕ) → IsFor subject number f at → (place : ℕ) × (size : ℕ) × (record_name subject f number ≡ Filed place size)
@@ -164,19 +164,19 @@ pub record NameFiles : Type 0 where
   -- it lies within the file
   pub within : (subject : Subject) (f : List ℕ) (number at size : ℕ) → Accepted (file_rows (some f)) → record_name subject f number ≡ Filed at size → at + size ≤ length f
   -- an empty file is accepted and gives no name
-  pub empty-accepted : Accepted (file_rows (some []))
-  pub empty-nameless : (subject : Subject) (number : ℕ) → name_in subject (some []) number ≡ Nameless
+  pub empty_accepted : Accepted (file_rows (some []))
+  pub empty_nameless : (subject : Subject) (number : ℕ) → name_in subject (some []) number ≡ Nameless
   -- "A thread name comes from the dump if found there, a removed thread's included, else from the file": so without a file it is found as before
-  pub from-dump : (file : Option (List ℕ)) (s : List ℕ) (h : Header) (pointer : ℕ) → is_named (name_of s h pointer) ≡ true → name_with file s h pointer ≡ name_of s h pointer
-  pub from-file : (file : Option (List ℕ)) (s : List ℕ) (h : Header) (pointer : ℕ) → name_of s h pointer ≡ Nameless → name_with file s h pointer ≡ name_in Thread file pointer
-  pub without-file : (s : List ℕ) (pointer : ℕ) → find_name_with none s pointer ≡ find_name s pointer
+  pub from_dump : (file : Option (List ℕ)) (s : List ℕ) (h : Header) (pointer : ℕ) → is_named (name_of s h pointer) ≡ true → name_with file s h pointer ≡ name_of s h pointer
+  pub from_file : (file : Option (List ℕ)) (s : List ℕ) (h : Header) (pointer : ℕ) → name_of s h pointer ≡ Nameless → name_with file s h pointer ≡ name_in Thread file pointer
+  pub without_file : (s : List ℕ) (pointer : ℕ) → find_name_with none s pointer ≡ find_name s pointer
   -- records of 65,536 bytes at most, written one after another from offset 0 into a buffer that has room for them, are all accepted; the bytes that they take are a file
   -- that is accepted, and that gives each name back, the first for an id or a pointer
   pub written : (rs : List Naming) (s : List ℕ) → total rs ≤ length s → total rs ≤ 65536 → AllWritten 0 rs s
-  pub written-accepted : (rs : List Naming) (s : List ℕ) → total rs ≤ length s → total rs ≤ 65536 → Accepted (file_rows (some (take (total rs) (written_from 0 rs s))))
+  pub written_accepted : (rs : List Naming) (s : List ℕ) → total rs ≤ length s → total rs ≤ 65536 → Accepted (file_rows (some (take (total rs) (written_from 0 rs s))))
   pub read_back : (rs : List Naming) (s dump : List ℕ) (subject : Subject) (number : ℕ) → Each (λ r. r.number < 2 ^ 32) rs → total rs ≤ length s → total rs ≤ 65536
       → let file = some (take (total rs) (written_from 0 rs s)) in
       name_bytes file dump (name_in subject file number) ≡ first_written subject number rs
   -- "without one, lines stay as they are", and a file changes nothing of a line but "event" and a name that was null
   pub changes : (f s : List ℕ) (h : Header) (r : Reading) (position : ℕ) → SameButNames f s (line_at none s h r position) (line_at (some f) s h r position)
-  pub same-words : (f s : List ℕ) (h : Header) (r : Reading) (position : ℕ) → fields r position (event_at (some f) s h position) ≡ fields r position (event_at none s h position)
+  pub same_words : (f s : List ℕ) (h : Header) (r : Reading) (position : ℕ) → fields r position (event_at (some f) s h position) ≡ fields r position (event_at none s h position)

@@ -65,9 +65,9 @@ pub record Names (s : List ℕ) : Type 0 where
   pub named : (pointer : ℕ) (kind : ThreadKind) (at size : ℕ) → name_of s (header_of s) pointer ≡ Named kind at size
       → (i : ℕ) × Lowest kind s (header_of s) pointer i × Extends s (header_of s) i at size
   -- a live one always wins, so it is gone only where no in-use entry of type 1 has the pointer; where there is none, no entry of type 1 has it
-  pub live-wins : (pointer i : ℕ) → i < entry_count (header_of s) → IsThread Live s (header_of s) pointer i
+  pub live_wins : (pointer i : ℕ) → i < entry_count (header_of s) → IsThread Live s (header_of s) pointer i
       → (at : ℕ) × (size : ℕ) × (name_of s (header_of s) pointer ≡ Named Live at size)
-  pub gone-alone : (pointer at size : ℕ) → name_of s (header_of s) pointer ≡ Named Gone at size
+  pub gone_alone : (pointer at size : ℕ) → name_of s (header_of s) pointer ≡ Named Gone at size
       → (i : ℕ) → i < entry_count (header_of s) → IsThread Live s (header_of s) pointer i → ⊥
   pub nameless : (pointer : ℕ) → name_of s (header_of s) pointer ≡ Nameless
       → (kind : ThreadKind) (i : ℕ) → i < entry_count (header_of s) → IsThread kind s (header_of s) pointer i → ⊥
@@ -76,29 +76,29 @@ pub record Names (s : List ℕ) : Type 0 where
   -- it lies within the dump, whatever the bytes; where there is none, and in a refusal, its length is 0 (that the part handed back is this one: `calls` in
   -- `contracts`)
   pub within : (pointer : ℕ) → LiesWithin (name_found (find_name s pointer)) s
-  pub none-empty : (pointer : ℕ) → find_name s pointer ≡ found.Searched Nameless → name_length (name_found (find_name s pointer)) ≡ 0
-  pub refused-empty : (pointer : ℕ) (f : Refusal) → find_name s pointer ≡ found.Refused f → name_length (name_found (find_name s pointer)) ≡ 0
-  -- with a name file it is the dump's or else the file's (`name-files`), and lies within whichever of the two it is of
-  pub searched-with : (file : Option (List ℕ)) (pointer : ℕ) (name : Name) → find_name_with file s pointer ≡ found.Searched name → name ≡ name_with file s (header_of s) pointer
-  pub within-with : (file : Option (List ℕ)) (pointer : ℕ) → LiesThere file s (name_found (find_name_with file s pointer))
+  pub none_empty : (pointer : ℕ) → find_name s pointer ≡ found.Searched Nameless → name_length (name_found (find_name s pointer)) ≡ 0
+  pub refused_empty : (pointer : ℕ) (f : Refusal) → find_name s pointer ≡ found.Refused f → name_length (name_found (find_name s pointer)) ≡ 0
+  -- with a name file it is the dump's or else the file's (`name_files`), and lies within whichever of the two it is of
+  pub searched_with : (file : Option (List ℕ)) (pointer : ℕ) (name : Name) → find_name_with file s pointer ≡ found.Searched name → name ≡ name_with file s (header_of s) pointer
+  pub within_with : (file : Option (List ℕ)) (pointer : ℕ) → LiesThere file s (name_found (find_name_with file s pointer))
   -- an event's context is by its thread pointer: 0xF0F0F0F0 is "init", 0xFFFFFFFF is "isr", others "thread"
   pub init : context_of 0xF0F0F0F0 ≡ Init
   pub isr : context_of 0xFFFFFFFF ≡ Isr
   pub thread : (pointer : ℕ) → (pointer ≡ 0xF0F0F0F0 → ⊥) → (pointer ≡ 0xFFFFFFFF → ⊥) → context_of pointer ≡ Thread
   -- its name is found by the thread pointer for "thread", by the priority field for "isr"; for "init" there is none
-  pub event-by : (file : Option (List ℕ)) (position : ℕ) (e : Event) → event_of file s position ≡ shown.Given e → e.by ≡ context_of e.slot.pointer
+  pub event_by : (file : Option (List ℕ)) (position : ℕ) (e : Event) → event_of file s position ≡ shown.Given e → e.by ≡ context_of e.slot.pointer
   pub thread-name : (file : Option (List ℕ)) (position : ℕ) (e : Event) → event_of file s position ≡ shown.Given e → e.by ≡ Thread
       → e.name ≡ name_with file s (header_of s) e.slot.pointer
-  pub isr-name : (file : Option (List ℕ)) (position : ℕ) (e : Event) → event_of file s position ≡ shown.Given e → e.by ≡ Isr
+  pub isr_name : (file : Option (List ℕ)) (position : ℕ) (e : Event) → event_of file s position ≡ shown.Given e → e.by ≡ Isr
       → e.name ≡ name_with file s (header_of s) e.slot.field
-  pub init-name : (file : Option (List ℕ)) (position : ℕ) (e : Event) → event_of file s position ≡ shown.Given e → e.by ≡ Init → e.name ≡ Nameless
+  pub init_name : (file : Option (List ℕ)) (position : ℕ) (e : Event) → event_of file s position ≡ shown.Given e → e.by ≡ Init → e.name ≡ Nameless
   -- and its own name is the file's for its id
   pub title : (file : Option (List ℕ)) (position : ℕ) (e : Event) → event_of file s position ≡ shown.Given e → e.title ≡ name_in subject.Event file e.slot.id
   -- its line has "gone":true for the name of a thread that is gone, and otherwise false, also where the name is the file's and where there is none
-  pub says-gone : (r : Reading) (position : ℕ) (e : Event) (at size : ℕ) → e.name ≡ Named Gone at size → (fields r position e).gone ≡ true
-  pub says-live : (r : Reading) (position : ℕ) (e : Event) (at size : ℕ) → e.name ≡ Named Live at size → (fields r position e).gone ≡ false
-  pub says-filed : (r : Reading) (position : ℕ) (e : Event) (at size : ℕ) → e.name ≡ Filed at size → (fields r position e).gone ≡ false
+  pub says_gone : (r : Reading) (position : ℕ) (e : Event) (at size : ℕ) → e.name ≡ Named Gone at size → (fields r position e).gone ≡ true
+  pub says_live : (r : Reading) (position : ℕ) (e : Event) (at size : ℕ) → e.name ≡ Named Live at size → (fields r position e).gone ≡ false
+  pub says_filed : (r : Reading) (position : ℕ) (e : Event) (at size : ℕ) → e.name ≡ Filed at size → (fields r position e).gone ≡ false
   pub says_none : (r : Reading) (position : ℕ) (e : Event) → e.name ≡ Nameless → (fields r position e).gone ≡ false
   -- both lie within the dump or within the file, whichever they are of
-  pub event-within : (file : Option (List ℕ)) (position : ℕ) → LiesThere file s (name_shown (event_of file s position))
-  pub title-within : (file : Option (List ℕ)) (position : ℕ) (e : Event) → event_of file s position ≡ shown.Given e → LiesThere file s e.title
+  pub event_within : (file : Option (List ℕ)) (position : ℕ) → LiesThere file s (name_shown (event_of file s position))
+  pub title_within : (file : Option (List ℕ)) (position : ℕ) (e : Event) → event_of file s position ≡ shown.Given e → LiesThere file s e.title

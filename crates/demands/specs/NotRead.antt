@@ -50,10 +50,10 @@ pub record SameAnswers (s t : List ℕ) : Type 0 where
   pub check : check_of t ≡ check_of s
   pub name : (pointer : ℕ) → SameName s t pointer
   pub name-with : (file : Option (List ℕ)) (pointer : ℕ) → find_name_with file t pointer ≡ find_name_with file s pointer
-  pub name-with-bytes : (file : Option (List ℕ)) (pointer : ℕ)
+  pub name_with_bytes : (file : Option (List ℕ)) (pointer : ℕ)
       → let was = name_found (find_name_with file s pointer) in name_bytes file t was ≡ name_bytes file s was
   pub event : (file : Option (List ℕ)) (position : ℕ) → event_of file t position ≡ event_of file s position
-  pub event-name : (file : Option (List ℕ)) (position : ℕ)
+  pub event_name : (file : Option (List ℕ)) (position : ℕ)
       → let was = name_shown (event_of file s position) in name_bytes file t was ≡ name_bytes file s was
   pub listing : (file : Option (List ℕ)) (r : Reading) (old new : List ℕ) (said : Listed)
       → Gave (listing_rows file s (header_of s) r (length old)) (listing_text file s (header_of s) r) old new said

@@ -54,7 +54,7 @@ key_text line = up_to 0x2C (drop (length (ascii "{\"key\":")) line)
 
 -- a line that was written for the event at a position of a reading, with a name file or without: in a listing, or by itself
 pub data WrittenLine (r : Reading) (p : ℕ) (line : List ℕ) : Type 0 where
-  in-listing : (file : Option (List ℕ)) (s old new : List ℕ) (n : ℕ)
+  in_listing : (file : Option (List ℕ)) (s old new : List ℕ) (n : ℕ)
       → Gave (listing_rows file s (header_of s) r (length old)) (listing_text file s (header_of s) r) old new (Written n)
       → p < event_count s (header_of s) → line ≡ line_in (take n new) p → WrittenLine r p line
   by_itself : (file : Option (List ℕ)) (s old new : List ℕ) (n : ℕ)

@@ -27,4 +27,4 @@ pub record InPieces : Type 0 where
   -- "The state may hold at most 96 dump bytes": the header's, and the first of the entry or slot under way. Where things lie is worked out of the header's; all
   -- other fields are counts and indices
   pub holds : (pieces : List (List ℕ)) → let p = fed_all begun pieces in length p.header + length p.body.front ≤ 96
-  pub worked-out : (pieces : List (List ℕ)) → let p = fed_all begun pieces in p.body.geometry ≡ geometry_of (header_of p.header)
+  pub worked_out : (pieces : List (List ℕ)) → let p = fed_all begun pieces in p.body.geometry ≡ geometry_of (header_of p.header)

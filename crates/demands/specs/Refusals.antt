@@ -86,7 +86,7 @@ pub record Orders : Type 0 where
   -- checking a dump, 1 to 13; finding a name, 1 to 11, and with a name file its 2 and 27
   pub checking : (s : List ℕ) → checks_of (dump_rows s (header_of s)) ≡ dump_order s (header_of s)
   pub finding : (s : List ℕ) → checks_of (registry_rows s (header_of s)) ≡ registry_order s (header_of s)
-  pub finding-with : (file : Option (List ℕ)) (s : List ℕ) → checks_of (finding_rows file s (header_of s)) ≡ registry_order s (header_of s) ++ file_order file
+  pub finding_with : (file : Option (List ℕ)) (s : List ℕ) → checks_of (finding_rows file s (header_of s)) ≡ registry_order s (header_of s) ++ file_order file
   -- one event by position, 1 to 13, a name file's, then 25
   pub event : (file : Option (List ℕ)) (s : List ℕ) (position : ℕ)
       → checks_of (event_rows file s (header_of s) position) ≡ dump_order s (header_of s) ++ file_order file ++ plain (25 ∷ [])

@@ -49,22 +49,22 @@ Allowed mask size = ((row4 mask).broken ≡ false) × ((row5 size).broken ≡ fa
 
 -- one row a case, those of dumps for either byte order
 pub record Starred (o : Order) : Type 0 where
-  pub mask-0x1 : check_of (top_dump o 0x1) ≡ Sound (top_header o 0x1) 0
-  pub mask-0xFFFFFFFF : check_of (top_dump o 0xFFFFFFFF) ≡ Sound (top_header o 0xFFFFFFFF) 0
-  pub mask-0 : check_of (top_dump o 0) ≡ refused 4
-  pub mask-0x5 : check_of (top_dump o 0x5) ≡ refused 4
-  pub mask-0xFF00 : check_of (top_dump o 0xFF00) ≡ refused 4
-  pub end-pointer-0 : check_of (top_dump o 0xFFFF) ≡ Sound (top_header o 0xFFFF) 0
-  pub end-offset-256 : buffer_end (top_header o 0xFFFF) ≡ 256
-  pub eighty-bytes-one-slot : (base mask size : ℕ) (s : List ℕ) → Allowed mask size → length s ≡ 80 → said (formatting (no_entries o base mask size) s) ≡ outcome.Done 1
-  pub seventy-nine-bytes-24 : (base mask size : ℕ) (s : List ℕ) → Allowed mask size → length s ≡ 79
+  pub mask_0x1 : check_of (top_dump o 0x1) ≡ Sound (top_header o 0x1) 0
+  pub mask_0xFFFFFFFF : check_of (top_dump o 0xFFFFFFFF) ≡ Sound (top_header o 0xFFFFFFFF) 0
+  pub mask_0 : check_of (top_dump o 0) ≡ refused 4
+  pub mask_0x5 : check_of (top_dump o 0x5) ≡ refused 4
+  pub mask_0xFF00 : check_of (top_dump o 0xFF00) ≡ refused 4
+  pub end_pointer_0 : check_of (top_dump o 0xFFFF) ≡ Sound (top_header o 0xFFFF) 0
+  pub end_offset_256 : buffer_end (top_header o 0xFFFF) ≡ 256
+  pub eighty_bytes_one_slot : (base mask size : ℕ) (s : List ℕ) → Allowed mask size → length s ≡ 80 → said (formatting (no_entries o base mask size) s) ≡ outcome.Done 1
+  pub seventy_nine_bytes_24 : (base mask size : ℕ) (s : List ℕ) → Allowed mask size → length s ≡ 79
       → said (formatting (no_entries o base mask size) s) ≡ outcome.Refused (record { number = 24; place = 0 })
-  pub gap-65500-20 : gap 0xFFFF 65500 20 ≡ 56
-  pub gap-equal : (mask stamp : ℕ) → gap mask stamp stamp ≡ 0
-  pub bare-at-9007199254-ticks : number (microseconds 9007199254 1) ≡ ascii "9007199254000000"
-  pub quoted-at-9007199255-ticks : number (microseconds 9007199255 1) ≡ ascii "\"9007199255000000\""
-  pub bare-at-key-9007199254740991 : number (key 8191 1099511627775 0) ≡ ascii "9007199254740991"
-  pub quoted-at-key-9007199254740992 : number (key 8192 0 0) ≡ ascii "\"9007199254740992\""
-  pub bare-at-9007199254740991-microseconds : number (microseconds 9007199254740991 1000000) ≡ ascii "9007199254740991"
-  pub quoted-at-9007199254740992-microseconds : number (microseconds 9007199254740992 1000000) ≡ ascii "\"9007199254740992\""
-  pub name-41-22-0A : escaped (0x41 ∷ 0x22 ∷ 0x0A ∷ []) ≡ ascii "A\\\"\\u000a"
+  pub gap_65500_20 : gap 0xFFFF 65500 20 ≡ 56
+  pub gap_equal : (mask stamp : ℕ) → gap mask stamp stamp ≡ 0
+  pub bare_at_9007199254_ticks : number (microseconds 9007199254 1) ≡ ascii "9007199254000000"
+  pub quoted_at_9007199255_ticks : number (microseconds 9007199255 1) ≡ ascii "\"9007199255000000\""
+  pub bare_at_key_9007199254740991 : number (key 8191 1099511627775 0) ≡ ascii "9007199254740991"
+  pub quoted_at_key_9007199254740992 : number (key 8192 0 0) ≡ ascii "\"9007199254740992\""
+  pub bare_at_9007199254740991_microseconds : number (microseconds 9007199254740991 1000000) ≡ ascii "9007199254740991"
+  pub quoted_at_9007199254740992_microseconds : number (microseconds 9007199254740992 1000000) ≡ ascii "\"9007199254740992\""
+  pub name_41_22_0A : escaped (0x41 ∷ 0x22 ∷ 0x0A ∷ []) ≡ ascii "A\\\"\\u000a"

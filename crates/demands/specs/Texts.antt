@@ -11,22 +11,22 @@ use Rattle.demands.specs.Json.{Int}
 
 pub record Texts : Type 0 where
   -- digits are an integer of JSON
-  pub digits-integer : (n : ℕ) → Int (digits n)
+  pub digits_integer : (n : ℕ) → Int (digits n)
   -- a number's text reads back to the number, bare or quoted, and a name's to the name, or to none
-  pub number-back : (n : ℕ) → read_number (number n) ≡ n
+  pub number_back : (n : ℕ) → read_number (number n) ≡ n
   pub name_back : (n : Option (List ℕ)) → IsName n → read_name (name n) ≡ n
   -- so two numbers never print alike, and neither do two names
-  pub numbers-differ : (m n : ℕ) → number m ≡ number n → m ≡ n
-  pub names-differ : (m n : Option (List ℕ)) → IsName m → IsName n → name m ≡ name n → m ≡ n
+  pub numbers_differ : (m n : ℕ) → number m ≡ number n → m ≡ n
+  pub names_differ : (m n : Option (List ℕ)) → IsName m → IsName n → name m ≡ name n → m ≡ n
   -- no text is empty
-  pub number-some : (n : ℕ) → 1 ≤ length (number n)
-  pub name-some : (n : Option (List ℕ)) → 1 ≤ length (name n)
-  pub line-some : (l : Line) (event : Option (Option (List ℕ))) (n : Option (List ℕ)) → 1 ≤ length (line l event n)
+  pub number_some : (n : ℕ) → 1 ≤ length (number n)
+  pub name_some : (n : Option (List ℕ)) → 1 ≤ length (name n)
+  pub line_some : (l : Line) (event : Option (Option (List ℕ))) (n : Option (List ℕ)) → 1 ≤ length (line l event n)
   -- no line is longer than its bound, where its numbers fit 64 bits, and that is at most what the printers take for plenty of room
-  pub line-bound : (l : Line) (event : Option (Option (List ℕ))) (n : Option (List ℕ)) → Fit64 (numbers_in (parts l event n)) → length (line l event n) ≤ bound (parts l event n)
-  pub bound-most : (l : Line) (event : Option (Option (List ℕ))) (n : Option (List ℕ)) → bound (parts l event n) ≤ 6 * (event_size event + name_size n + 65)
+  pub line_bound : (l : Line) (event : Option (Option (List ℕ))) (n : Option (List ℕ)) → Fit64 (numbers_in (parts l event n)) → length (line l event n) ≤ bound (parts l event n)
+  pub bound_most : (l : Line) (event : Option (Option (List ℕ))) (n : Option (List ℕ)) → bound (parts l event n) ≤ 6 * (event_size event + name_size n + 65)
   -- as no text is empty, an answer of 0 says that there was no room, and without room nothing is written
-  pub zero-said : (text old new : List ℕ) → 1 ≤ length text → Put (printed text old) old new 0 → length old < length text
+  pub zero_said : (text old new : List ℕ) → 1 ≤ length text → Put (printed text old) old new 0 → length old < length text
   pub no_room : (text old new : List ℕ) (answer : ℕ) → Put (printed text old) old new answer → length old < length text → (answer ≡ 0) × (new ≡ old)
   pub room : (text old new : List ℕ) (answer : ℕ) → Put (printed text old) old new answer → length text ≤ length old
       → (answer ≡ length text) × (new ≡ text ++ drop (length text) old)

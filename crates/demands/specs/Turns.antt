@@ -10,7 +10,7 @@ abbrev pub current_is_used : List ℕ → Header → Bool
 current_is_used s h = is_used s h (current_slot h)
 
 pub record Turns (s : List ℕ) (h : Header) : Type 0 where
-  pub every-slot : current_is_used s h ≡ true → (i : ℕ) → is_at_fault OutOfTurn s h i ≡ not (is_used s h i)
-  pub before-it : current_is_used s h ≡ false → (i : ℕ) → i < current_slot h → is_at_fault OutOfTurn s h i ≡ not (is_used s h i)
-  pub after-it : current_is_used s h ≡ false → (i : ℕ) → current_slot h < i → is_at_fault OutOfTurn s h i ≡ is_used s h i
-  pub never-itself : is_at_fault OutOfTurn s h (current_slot h) ≡ false
+  pub every_slot : current_is_used s h ≡ true → (i : ℕ) → is_at_fault OutOfTurn s h i ≡ not (is_used s h i)
+  pub before_it : current_is_used s h ≡ false → (i : ℕ) → i < current_slot h → is_at_fault OutOfTurn s h i ≡ not (is_used s h i)
+  pub after_it : current_is_used s h ≡ false → (i : ℕ) → current_slot h < i → is_at_fault OutOfTurn s h i ≡ is_used s h i
+  pub never_itself : is_at_fault OutOfTurn s h (current_slot h) ≡ false

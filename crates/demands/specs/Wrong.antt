@@ -109,17 +109,17 @@ LastCounts =
     Accepted (file_rows file) → name_bytes file dump (name_in subject file number) ≡ some other
 
 pub record Wrong : Type 0 where
-  pub stamps-rise : StampsRise → ⊥
-  pub microseconds-bare : MicrosecondsBare → ⊥
+  pub stamps_rise : StampsRise → ⊥
+  pub microseconds_bare : MicrosecondsBare → ⊥
   pub no_ones : NoOnes → ⊥
-  pub higher-limit : HigherLimit → ⊥
-  pub serials-touch : SerialsTouch → ⊥
-  pub no-places : NoPlaces → ⊥
-  pub count-grows : CountGrows → ⊥
-  pub name-lost : NameLost → ⊥
-  pub others-kept : OthersKept → ⊥
-  pub always-appended : AlwaysAppended → ⊥
-  pub nonsense-cut : NonsenseCut → ⊥
-  pub cut-once : CutOnce → ⊥
-  pub always-exact : AlwaysExact → ⊥
-  pub last-counts : LastCounts → ⊥
+  pub higher_limit : HigherLimit → ⊥
+  pub serials_touch : SerialsTouch → ⊥
+  pub no_places : NoPlaces → ⊥
+  pub count_grows : CountGrows → ⊥
+  pub name_lost : NameLost → ⊥
+  pub others_kept : OthersKept → ⊥
+  pub always_appended : AlwaysAppended → ⊥
+  pub nonsense_cut : NonsenseCut → ⊥
+  pub cut_once : CutOnce → ⊥
+  pub always_exact : AlwaysExact → ⊥
+  pub last_counts : LastCounts → ⊥

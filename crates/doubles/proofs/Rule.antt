@@ -9,8 +9,8 @@ use lib.Ieee.Nearest.{closest}
 use Rattle.doubles.specs.Doubles.{IsSpacing, Rounded, double, spacing}
 
 -- the nearest multiple of u, by how twice the remainder compares with u
-closest-rounds : (n u : ℕ) → 0 < u → Rounded n u (closest n u * u)
-closest-rounds n u positive = by_order (compare (n % u * 2) u) (leb→le (n % u * 2) u) (nleb→lt (n % u * 2) u) (eqb→eq (n % u * 2) u) (λ (e : n % u * 2 ≡ u). subst (λ (x : ℕ). T (eqb (n % u * 2) x)) e (eqb_refl (n % u * 2)))
+closest_rounds : (n u : ℕ) → 0 < u → Rounded n u (closest n u * u)
+closest_rounds n u positive = by_order (compare (n % u * 2) u) (leb→le (n % u * 2) u) (nleb→lt (n % u * 2) u) (eqb→eq (n % u * 2) u) (λ (e : n % u * 2 ≡ u). subst (λ (x : ℕ). T (eqb (n % u * 2) x)) e (eqb_refl (n % u * 2)))
   where
     q : ℕ
     q = n / u
@@ -37,18 +37,18 @@ closest-rounds n u positive = by_order (compare (n % u * 2) u) (leb→le (n % u 
         let r = mod-lt n positive in
         record { multiple = mul-mod_left (suc q) u; low = omega arith; high = omega arith; even = λ t. absurd (is-tie t) }
 
-spacing-some : (n : ℕ) → 0 < spacing n
+spacing_some : (n : ℕ) → 0 < spacing n
 unfolding spacing
-spacing-some n = pow_pos (size n - 53)
+spacing_some n = pow_pos (size n - 53)
 
-pub double-rounds : (n : ℕ) → Rounded n (spacing n) (double n)
+pub double_rounds : (n : ℕ) → Rounded n (spacing n) (double n)
 unfolding double
-double-rounds n = closest-rounds n (spacing n) (spacing-some n)
+double_rounds n = closest_rounds n (spacing n) (spacing_some n)
 
 -- so many bits above the spacing
-pub spacing-is : (n : ℕ) → IsSpacing n (spacing n)
+pub spacing_is : (n : ℕ) → IsSpacing n (spacing n)
 unfolding spacing
-spacing-is n = (size n - 53, refl, by_size (ltb (size n) 54) refl)
+spacing_is n = (size n - 53, refl, by_size (ltb (size n) 54) refl)
   where
     by_size : (b : Bool) → ltb (size n) 54 ≡ b → ((size n - 53 ≡ 0) × (n < 2 ^ 53)) ⊎ ((2 ^ 52 * 2 ^ (size n - 53) ≤ n) × (n < 2 ^ 53 * 2 ^ (size n - 53)))
     by_size true e =
@@ -66,12 +66,12 @@ spacing-is n = (size n - 53, refl, by_size (ltb (size n) 54) refl)
         )
 
 -- from two to the fifty-third on, doubles are no smaller: the double has as many bits above the spacing
-pub double-from : (n : ℕ) → 2 ^ 53 ≤ n → 2 ^ 53 ≤ double n
-double-from n large = by-spacing (spacing n) (spacing-is n) (double-rounds n)
+pub double_from : (n : ℕ) → 2 ^ 53 ≤ n → 2 ^ 53 ≤ double n
+double_from n large = by_spacing (spacing n) (spacing_is n) (double_rounds n)
   where
-    by-spacing : (u : ℕ) → IsSpacing n u → Rounded n u (double n) → 2 ^ 53 ≤ double n
-    by-spacing u (k, is, inl few) rounded = absurd (omega (arith, few.1))
-    by-spacing u (k, is, inr (low, high)) rounded =
+    by_spacing : (u : ℕ) → IsSpacing n u → Rounded n u (double n) → 2 ^ 53 ≤ double n
+    by_spacing u (k, is, inl few) rounded = absurd (omega (arith, few.1))
+    by_spacing u (k, is, inr (low, high)) rounded =
         let two : 2 ≤ u = omega arith in
         let whole : double n / u * u ≡ double n = omega (arith, div-add-mod' (double n) u, rounded.multiple) in
         let odd : (double n / u * 2 + 1) * u ≡ double n * 2 + u = omega (arith, whole) in
@@ -80,8 +80,8 @@ double-from n large = by-spacing (spacing n) (spacing-is n) (double-rounds n)
         omega arith
 
 -- two neighbouring multiples are not both the nearest, for at a tie one of them is odd
-no-neighbour : (n u a : ℕ) → 0 < u → Rounded n u (a * u) → Rounded n u (suc a * u) → ⊥
-no-neighbour n u a positive x y =
+no_neighbour : (n u a : ℕ) → 0 < u → Rounded n u (a * u) → Rounded n u (suc a * u) → ⊥
+no_neighbour n u a positive x y =
     let next : suc a * u ≡ a * u + u = suc-mul a u in
     let half : n * 2 ≡ a * u * 2 + u = omega (arith, x.low, y.high) in
     let split : a * u + (n - a * u) ≡ n = omega arith in
@@ -96,7 +96,7 @@ no_other : (n u a b : ℕ) → 0 < u → a < b → Rounded n u (a * u) → Round
 no_other n u a b positive less x y = ⊎_elim beside apart (eq-or-lt_of_le less)
   where
     beside : suc a ≡ b → ⊥
-    beside e = no-neighbour n u a positive x (subst (λ (m : ℕ). Rounded n u (m * u)) (sym e) y)
+    beside e = no_neighbour n u a positive x (subst (λ (m : ℕ). Rounded n u (m * u)) (sym e) y)
 
     apart : suc a < b → ⊥
     apart far =
@@ -106,8 +106,8 @@ no_other n u a b positive less x y = ⊎_elim beside apart (eq-or-lt_of_le less)
         omega (arith, x.low, y.high)
 
 -- so the rule gives one number
-one-rounding : (n u r s : ℕ) → 0 < u → Rounded n u r → Rounded n u s → r ≡ s
-one-rounding n u r s positive x y =
+one_rounding : (n u r s : ℕ) → 0 < u → Rounded n u r → Rounded n u s → r ≡ s
+one_rounding n u r s positive x y =
     let a : r / u * u ≡ r = omega (arith, div-add-mod' r u, x.multiple) in
     let b : s / u * u ≡ s = omega (arith, div-add-mod' s u, y.multiple) in
     let first : Rounded n u (r / u * u) = subst (Rounded n u) (sym a) x in
@@ -118,24 +118,24 @@ one-rounding n u r s positive x y =
     sym a ∙ ap (λ (m : ℕ). m * u) same ∙ b
 
 -- powers of two grow with their exponents
-exponent-below : (j k : ℕ) → 2 ^ j < 2 ^ k → j < k
-exponent-below j k h = lt_of_not-le (λ (le : k ≤ j). not-le_of_lt h (pow_mono le))
+exponent_below : (j k : ℕ) → 2 ^ j < 2 ^ k → j < k
+exponent_below j k h = lt_of_not-le (λ (le : k ≤ j). not-le_of_lt h (pow_mono le))
 
 -- n has bits enough above the one spacing and not too many above the other
-exponent-most : (n j k : ℕ) → 2 ^ 52 * 2 ^ j ≤ n → n < 2 ^ 53 * 2 ^ k → j ≤ k
-exponent-most n j k low high =
+exponent_most : (n j k : ℕ) → 2 ^ 52 * 2 ^ j ≤ n → n < 2 ^ 53 * 2 ^ k → j ≤ k
+exponent_most n j k low high =
     let below : 2 ^ (52 + j) < 2 ^ (53 + k) = rw (pow-add 2 52 j, pow-add 2 53 k) (lt_of_le_of_lt low high) in
-    omega (arith, exponent-below (52 + j) (53 + k) below)
+    omega (arith, exponent_below (52 + j) (53 + k) below)
 
-no-wider : (n j k u v : ℕ) → u ≡ 2 ^ j → v ≡ 2 ^ k → ((j ≡ 0) × (n < 2 ^ 53)) ⊎ ((2 ^ 52 * u ≤ n) × (n < 2 ^ 53 * u)) → ((k ≡ 0) × (n < 2 ^ 53)) ⊎ ((2 ^ 52 * v ≤ n) × (n < 2 ^ 53 * v)) → j ≤ k
-no-wider n j k u v p q (inl x) y = omega (arith, x.0)
-no-wider n j k u v p q (inr x) (inl y) = omega (arith, exponent-most n j 0 (rw p at x.0) y.1)
-no-wider n j k u v p q (inr x) (inr y) = exponent-most n j k (rw p at x.0) (rw q at y.1)
+no_wider : (n j k u v : ℕ) → u ≡ 2 ^ j → v ≡ 2 ^ k → ((j ≡ 0) × (n < 2 ^ 53)) ⊎ ((2 ^ 52 * u ≤ n) × (n < 2 ^ 53 * u)) → ((k ≡ 0) × (n < 2 ^ 53)) ⊎ ((2 ^ 52 * v ≤ n) × (n < 2 ^ 53 * v)) → j ≤ k
+no_wider n j k u v p q (inl x) y = omega (arith, x.0)
+no_wider n j k u v p q (inr x) (inl y) = omega (arith, exponent_most n j 0 (rw p at x.0) y.1)
+no_wider n j k u v p q (inr x) (inr y) = exponent_most n j k (rw p at x.0) (rw q at y.1)
 
 -- so a number has one spacing
-one-spacing : (n u v : ℕ) → IsSpacing n u → IsSpacing n v → u ≡ v
-one-spacing n u v (j, p, x) (k, q, y) = p ∙ ap (λ (e : ℕ). 2 ^ e) (le_antisymm (no-wider n j k u v p q x y) (no-wider n k j v u q p y x)) ∙ sym q
+one_spacing : (n u v : ℕ) → IsSpacing n u → IsSpacing n v → u ≡ v
+one_spacing n u v (j, p, x) (k, q, y) = p ∙ ap (λ (e : ℕ). 2 ^ e) (le_antisymm (no_wider n j k u v p q x y) (no_wider n k j v u q p y x)) ∙ sym q
 
 -- and the whole rule gives one number, the double
-pub one-double : (n u r : ℕ) → IsSpacing n u → Rounded n u r → r ≡ double n
-one-double n u r is rounded = one-rounding n (spacing n) r (double n) (spacing-some n) (subst (λ (v : ℕ). Rounded n v r) (one-spacing n u (spacing n) is (spacing-is n)) rounded) (double-rounds n)
+pub one_double : (n u r : ℕ) → IsSpacing n u → Rounded n u r → r ≡ double n
+one_double n u r is rounded = one_rounding n (spacing n) r (double n) (spacing_some n) (subst (λ (v : ℕ). Rounded n v r) (one_spacing n u (spacing n) is (spacing_is n)) rounded) (double_rounds n)

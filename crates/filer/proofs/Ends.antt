@@ -13,17 +13,17 @@ use Rattle.text.specs.Output.{capped}
 use Rattle.trace.specs.Layout.{most_bytes}
 use Rattle.trace.specs.Table.{row16}
 
-ltb-capped : (limit n : ℕ) → limit < 2 ^ 64 - 1 → ltb limit (capped n) ≡ ltb limit n
-ltb-capped limit n small = by (ltb limit n) refl
+ltb_capped : (limit n : ℕ) → limit < 2 ^ 64 - 1 → ltb limit (capped n) ≡ ltb limit n
+ltb_capped limit n small = by (ltb limit n) refl
   where
     by : (past : Bool) → ltb limit n ≡ past → ltb limit (capped n) ≡ ltb limit n
     by true e = rw e (lt-ltb limit (capped n) (omega (arith, ltb-true limit n e)))
     by false e = rw e (le-ltb limit (capped n) (omega (arith, ltb-false limit n e)))
 
-pub rows-capped : (end room : ℕ) → room < 2 ^ 64 - 1 → first_broken (record_rows (capped end) room) ≡ first_broken (record_rows end room)
+pub rows_capped : (end room : ℕ) → room < 2 ^ 64 - 1 → first_broken (record_rows (capped end) room) ≡ first_broken (record_rows end room)
 unfolding first_broken row16 row28
-rows-capped end room small = rw (ltb-capped most_bytes end (omega arith), ltb-capped room end small)
+rows_capped end room small = rw (ltb_capped most_bytes end (omega arith), ltb_capped room end small)
 
-pub ends-within : (end room : ℕ) → first_broken (record_rows end room) ≡ Passed → end ≤ most_bytes
+pub ends_within : (end room : ℕ) → first_broken (record_rows end room) ≡ Passed → end ≤ most_bytes
 unfolding row28
-ends-within end room passed = ltb-false most_bytes end (unbroken passed (row28 end) (search among))
+ends_within end room passed = ltb-false most_bytes end (unbroken passed (row28 end) (search among))

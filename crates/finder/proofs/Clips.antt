@@ -20,14 +20,14 @@ at_most A n most all = by_length (leb n most) refl
         let beyond : most ≤ n = omega (arith, leb-false n most e) in
         ap A (omega arith) ∙ all beyond
 
-take-most : (l : List ℕ) (n : ℕ) → take (min n (length l)) l ≡ take n l
-take-most l n = at_most (λ k. take k l) n (length l) (λ beyond. take_all (length l) l (omega arith) ∙ sym (take_all n l beyond))
+take_most : (l : List ℕ) (n : ℕ) → take (min n (length l)) l ≡ take n l
+take_most l n = at_most (λ k. take k l) n (length l) (λ beyond. take_all (length l) l (omega arith) ∙ sym (take_all n l beyond))
 
-drop-most : (l : List ℕ) (n : ℕ) → drop (min n (length l)) l ≡ drop n l
-drop-most l n = at_most (λ k. drop k l) n (length l) (λ beyond. drop_of_length-le l {i = length l} (omega arith) ∙ sym (drop_of_length-le l {i = n} beyond))
+drop_most : (l : List ℕ) (n : ℕ) → drop (min n (length l)) l ≡ drop n l
+drop_most l n = at_most (λ k. drop k l) n (length l) (λ beyond. drop_of_length-le l {i = length l} (omega arith) ∙ sym (drop_of_length-le l {i = n} beyond))
 
 pub clipped : (s : List ℕ) (at size start n : ℕ) → start ≡ min at (length s) → n ≡ min size (length s - start) → take (start + n - start) (drop start s) ≡ take size (drop at s)
 clipped s at size start n first last =
-    let same : drop start s ≡ drop at s = rw first (drop-most s at) in
+    let same : drop start s ≡ drop at s = rw first (drop_most s at) in
     let long : n ≡ min size (length (drop at s)) = rw length-drop (omega arith) in
-    rw (add-sub_cancel_left, same, long) (take-most (drop at s) size)
+    rw (add-sub_cancel_left, same, long) (take_most (drop at s) size)

@@ -8,29 +8,29 @@ use native.Mathlib.Omega.{arith}
 use borrow.Author.Tests.{eq-eqb, ne_eqb}
 use lib.ListN.{drop, get_or, length, take, length-drop, length-take, get_or-eq_default}
 use lib.Seq.{get_or-drop, get_or-take}
-use Rattle.rows.proofs.Lowest.{lowest-at, lowest-none}
+use Rattle.rows.proofs.Lowest.{lowest_at, lowest_none}
 use Rattle.trace.specs.Names.{is_zero_at, length_to_zero}
 
 module _ (s name : List ℕ) (at size : ℕ) (part : name ≡ take size (drop at s)) where
   pub long : length name ≤ size
   long = rw (part, length-take) (omega arith)
 
-  byte-is : (i : ℕ) → i < length name → get_or name i 0 ≡ get_or s (at + i) 0
-  byte-is i within = ap (λ (l : List ℕ). get_or l i 0) part ∙ get_or-take size (drop at s) i 0 (omega (arith, long)) ∙ get_or-drop at s i 0
+  byte_is : (i : ℕ) → i < length name → get_or name i 0 ≡ get_or s (at + i) 0
+  byte_is i within = ap (λ (l : List ℕ). get_or l i 0) part ∙ get_or-take size (drop at s) i 0 (omega (arith, long)) ∙ get_or-drop at s i 0
 
   pub no_zero : (i : ℕ) → i < length name → (get_or name i 0 ≡ 0 → ⊥) → is_zero_at s at i ≡ false
-  no_zero i within other = ne_eqb (get_or s (at + i) 0) 0 (λ zero. other (byte-is i within ∙ zero))
+  no_zero i within other = ne_eqb (get_or s (at + i) 0) 0 (λ zero. other (byte_is i within ∙ zero))
 
   module _ (i : ℕ) (missed : (k : ℕ) → k < i → is_zero_at s at k ≡ false) where
-    pub ends-at-zero : i < length name → get_or name i 0 ≡ 0 → i ≡ length_to_zero s at size
-    ends-at-zero within zero = lowest-at (is_zero_at s at) size i (omega (arith, long)) missed (eq-eqb (get_or s (at + i) 0) 0 (sym (byte-is i within) ∙ zero))
+    pub ends_at_zero : i < length name → get_or name i 0 ≡ 0 → i ≡ length_to_zero s at size
+    ends_at_zero within zero = lowest_at (is_zero_at s at) size i (omega (arith, long)) missed (eq-eqb (get_or s (at + i) 0) 0 (sym (byte_is i within) ∙ zero))
 
     -- past the bytes' end every byte reads as zero
-    pub ends-with-part : i ≡ length name → i ≡ length_to_zero s at size
-    ends-with-part all = by (dec_lt i size)
+    pub ends_with_part : i ≡ length name → i ≡ length_to_zero s at size
+    ends_with_part all = by (dec_lt i size)
       where
         by : Dec (i < size) → i ≡ length_to_zero s at size
         by (yes cut) =
             let short = rw (length-take, length-drop) at (ap length part) in
-            lowest-at (is_zero_at s at) size i cut missed (eq-eqb (get_or s (at + i) 0) 0 (get_or-eq_default s 0 {n = at + i} (omega arith)))
-        by (no whole) = let full : i ≡ size = omega (arith, long) in full ∙ lowest-none (is_zero_at s at) size (λ k below. missed k (omega arith))
+            lowest_at (is_zero_at s at) size i cut missed (eq-eqb (get_or s (at + i) 0) 0 (get_or-eq_default s 0 {n = at + i} (omega arith)))
+        by (no whole) = let full : i ≡ size = omega (arith, long) in full ∙ lowest_none (is_zero_at s at) size (λ k below. missed k (omega arith))

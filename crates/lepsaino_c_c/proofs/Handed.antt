@@ -68,8 +68,8 @@ pub record SameLearnt : Type 1 where
   pub lepsaino_write_name : exports.lepsaino_write_name.Reads.Learnt ≡ calls.lepsaino_write_name.Reads.Learnt
   pub lepsaino_mend : exports.lepsaino_mend.Reads.Learnt ≡ calls.lepsaino_mend.Reads.Learnt
 
-pub same-signatures : SameSignatures
-same-signatures = record {
+pub same_signatures : SameSignatures
+same_signatures = record {
   lepsaino_check = refl;
   lepsaino_begin = refl;
   lepsaino_feed = refl;
@@ -91,8 +91,8 @@ same-signatures = record {
   lepsaino_mend = refl;
 }
 
-pub same-asked : SameAsked
-same-asked = record {
+pub same_asked : SameAsked
+same_asked = record {
   lepsaino_check = refl;
   lepsaino_begin = refl;
   lepsaino_feed = refl;
@@ -114,8 +114,8 @@ same-asked = record {
   lepsaino_mend = refl;
 }
 
-pub same-learnt : SameLearnt
-same-learnt = record {
+pub same_learnt : SameLearnt
+same_learnt = record {
   lepsaino_check = refl;
   lepsaino_begin = refl;
   lepsaino_feed = refl;

@@ -8,7 +8,7 @@ use native.Mathlib.Omega.{arith}
 use borrow.Author.Count.{below_more, below_none}
 use borrow.Author.Tests.{eq-eqb, ne_eqb}
 use lib.Dec.{eqb}
-use Rattle.rows.proofs.Lowest.{lowest-at, lowest-none}
+use Rattle.rows.proofs.Lowest.{lowest_at, lowest_none}
 use Rattle.rows.specs.Lowest.{lowest}
 use Rattle.listing.specs.Index.{Leads, Linked, place_of, spread_of}
 
@@ -18,12 +18,12 @@ same false other = not other
 same true other = other
 
 -- the two sorts have places of their own, so a number's place tells the sort
-pub place-tells : (one other : Bool) (number : ℕ) → eqb (place_of one number) (place_of other number) ≡ same one other
+pub place_tells : (one other : Bool) (number : ℕ) → eqb (place_of one number) (place_of other number) ≡ same one other
 unfolding place_of spread_of
-place-tells false false number = eq-eqb (spread_of number) (spread_of number) refl
-place-tells true false number = ne_eqb (2048 + spread_of number) (spread_of number) (omega arith)
-place-tells false true number = ne_eqb (spread_of number) (2048 + spread_of number) (omega arith)
-place-tells true true number = eq-eqb (2048 + spread_of number) (2048 + spread_of number) refl
+place_tells false false number = eq-eqb (spread_of number) (spread_of number) refl
+place_tells true false number = ne_eqb (2048 + spread_of number) (spread_of number) (omega arith)
+place_tells false true number = ne_eqb (spread_of number) (2048 + spread_of number) (omega arith)
+place_tells true true number = eq-eqb (2048 + spread_of number) (2048 + spread_of number) refl
 
 -- what is wanted: of the things with a number, those that have its place, and no other thing
 pub record Seeks (has : ℕ → ℕ → Bool) (place : ℕ) (numbers : ℕ → ℕ) (number : ℕ) (wanted : ℕ → Bool) : Type 0 where
@@ -47,27 +47,27 @@ module _ {has : ℕ → ℕ → Bool} {count place : ℕ} {numbers : ℕ → ℕ
       by k (no late) (no other) = λ below inside. seeks.unlike k other
 
   module _ {first next : ℕ → ℕ} (linked : Linked has count 0 first next) where
-    pub comes-first : place < 4096 → Reached has count place wanted (first place)
-    comes-first small = comes (linked.firsts place small) (below_none _)
+    pub comes_first : place < 4096 → Reached has count place wanted (first place)
+    comes_first small = comes (linked.firsts place small) (below_none _)
 
     module _ (i : ℕ) (come : Reached has count place wanted i) (inside : i < count) where
-      pub leads-on : Leads has count place (suc i) (next i)
-      leads-on = linked.nexts i place (omega arith) inside (come.placed inside)
+      pub leads_on : Leads has count place (suc i) (next i)
+      leads_on = linked.nexts i place (omega arith) inside (come.placed inside)
 
-      pub comes-next : (numbers i ≡ number → ⊥) → Reached has count place wanted (next i)
-      comes-next other = comes leads-on (rw add-one at (below_more _ i (λ k below. come.missed k below (omega arith)) (seeks.unlike i other)))
+      pub comes_next : (numbers i ≡ number → ⊥) → Reached has count place wanted (next i)
+      comes_next other = comes leads_on (rw add-one at (below_more _ i (λ k below. come.missed k below (omega arith)) (seeks.unlike i other)))
 
   -- at a hit, and past the things, it has come to the end
   module _ (i : ℕ) (come : Reached has count place wanted i) where
-    pub comes-inside : (i ≡ 65535 → ⊥) → i < count
-    comes-inside other = by (dec_lt i count)
+    pub comes_inside : (i ≡ 65535 → ⊥) → i < count
+    comes_inside other = by (dec_lt i count)
       where
         by : Dec (i < count) → i < count
         by (yes inside) = inside
         by (no beyond) = absurd (other (come.past (omega arith)))
 
-    pub comes-hit : i < count → numbers i ≡ number → i ≡ lowest wanted count
-    comes-hit inside hit = lowest-at wanted count i inside (λ k below. come.missed k below (omega arith)) (seeks.alike i hit ∙ come.placed inside)
+    pub comes_hit : i < count → numbers i ≡ number → i ≡ lowest wanted count
+    comes_hit inside hit = lowest_at wanted count i inside (λ k below. come.missed k below (omega arith)) (seeks.alike i hit ∙ come.placed inside)
 
-    pub comes-past : count ≤ i → count ≡ lowest wanted count
-    comes-past past = lowest-none wanted count (λ k below. come.missed k (omega arith) below)
+    pub comes_past : count ≤ i → count ≡ lowest wanted count
+    comes_past past = lowest_none wanted count (λ k below. come.missed k (omega arith) below)

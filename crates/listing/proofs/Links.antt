@@ -26,8 +26,8 @@ module _ (has : ℕ → ℕ → Bool) (count : ℕ) where
         by k from (yes here) = λ below within. rw here without
         by k from (no past) = leads.skips k (omega arith)
 
-    pub link-none : ((place : ℕ) → has place i ≡ false) → Linked has count i first next
-    link-none none = record {
+    pub link_none : ((place : ℕ) → has place i ≡ false) → Linked has count i first next
+    link_none none = record {
       firsts = λ place below. over place (none place) (linked.firsts place below);
       nexts = λ k place from. by k place from (ℕ_discrete k i);
     }
@@ -41,8 +41,8 @@ module _ (has : ℕ → ℕ → Bool) (count : ℕ) where
         (led : next' i ≡ first own) (leads-here : first' own ≡ i)
         (other-firsts : (place : ℕ) → place < 4096 → (place ≡ own → ⊥) → first' place ≡ first place)
         (other-nexts : (k : ℕ) → k < count → (k ≡ i → ⊥) → next' k ≡ next k) where
-      pub link-one : Linked has count i first' next'
-      link-one = record {
+      pub link_one : Linked has count i first' next'
+      link_one = record {
         firsts = λ place below. firsts place below (ℕ_discrete place own);
         nexts = λ k place from. nexts k place from (ℕ_discrete k i);
       }

@@ -10,14 +10,14 @@ use borrow.Author.Tests.{eq-eqb, eqb-true, le-ltb, lt-ltb, ne_eqb}
 use lib.Dec.{eqb}
 use lib.ListN.{get_or, get_or-replicate, length, length-replicate, length-set, replicate, set}
 use lib.Seq.{get_or-set_other, get_or-set_same}
-use Rattle.naming.proofs.Records.{count-inside, count_past, records-apart}
+use Rattle.naming.proofs.Records.{count_inside, count_past, records_apart}
 use Rattle.naming.specs.Records.{is_sought_at, kind_at, kind_of, name_at, number_at, record_at, record_count, record_name}
 use Rattle.naming.specs.declared.Sought.TheVariants.{Naming}
 use Rattle.naming.specs.declared.Subject.{Subject}
 use Rattle.naming.specs.declared.Subject.TheVariants.{Event, Thread}
 use Rattle.trace.specs.declared.Name.TheVariants.{Nameless}
-use Rattle.listing.proofs.Follows.{Seeks, place-tells}
-use Rattle.listing.proofs.Links.{link-none, link-one, link_start}
+use Rattle.listing.proofs.Follows.{Seeks, place_tells}
+use Rattle.listing.proofs.Links.{link_none, link_one, link_start}
 use Rattle.listing.specs.Index.{Ends, place_of}
 use Rattle.listing.specs.RecordIndex.{Records, Starts, has_record, is_thread_subject}
 
@@ -36,19 +36,19 @@ module _ (f : List ℕ) where
   }
 
   module _ (short : length f ≤ 65536) where
-    pub record-few : (i : ℕ) → record_at f i < length f → i < 16384
-    record-few i starts = omega (arith, records-apart f i)
+    pub record_few : (i : ℕ) → record_at f i < length f → i < 16384
+    record_few i starts = omega (arith, records_apart f i)
 
     -- one more
-    pub found-more : (i : ℕ) (records : List ℕ) → record_at f i < length f → Found i records → Found (suc i) (set records i (record_at f i))
-    found-more i records starts found = record {
-      counted = count-inside f i starts;
-      starts = record { size = rw length-set found.starts.size; few = record-few i starts; starts = λ k below. by k below (ℕ_discrete k i) };
-      nowhere = λ place below. get_or-set_other records i (32768 + place) _ 0 (omega (arith, record-few i starts)) ∙ found.nowhere place below;
+    pub found_more : (i : ℕ) (records : List ℕ) → record_at f i < length f → Found i records → Found (suc i) (set records i (record_at f i))
+    found_more i records starts found = record {
+      counted = count_inside f i starts;
+      starts = record { size = rw length-set found.starts.size; few = record_few i starts; starts = λ k below. by k below (ℕ_discrete k i) };
+      nowhere = λ place below. get_or-set_other records i (32768 + place) _ 0 (omega (arith, record_few i starts)) ∙ found.nowhere place below;
     }
       where
         by : (k : ℕ) → k < suc i → Dec (k ≡ i) → get_or (set records i (record_at f i)) k 0 ≡ record_at f k
-        by k below (yes here) = rw here (get_or-set_same records i _ 0 (omega (arith, record-few i starts, found.starts.size)))
+        by k below (yes here) = rw here (get_or-set_same records i _ 0 (omega (arith, record_few i starts, found.starts.size)))
         by k below (no other) = get_or-set_other records i k _ 0 other ∙ found.starts.starts k (omega arith)
 
   -- where the file has ended, all are found
@@ -61,19 +61,19 @@ module _ (f : List ℕ) where
     abbrev kind : ℕ
     kind = kind_at f (record_at f i)
 
-    pub record-none : (eqb kind 1 || eqb kind 2) ≡ false → Records f i records
-    record-none none = record { found = index.found; linked = link-none (has_record f) (record_count f) i inside index.linked (λ place. rw none) }
+    pub record_none : (eqb kind 1 || eqb kind 2) ≡ false → Records f i records
+    record_none none = record { found = index.found; linked = link_none (has_record f) (record_count f) i inside index.linked (λ place. rw none) }
 
-    pub record-linked : (own : ℕ) → own ≡ place_of (eqb kind 2) (number_at f (record_at f i)) → own < 4096 → (eqb kind 1 || eqb kind 2) ≡ true
+    pub record_linked : (own : ℕ) → own ≡ place_of (eqb kind 2) (number_at f (record_at f i)) → own < 4096 → (eqb kind 1 || eqb kind 2) ≡ true
         → Records f i (set (set records (16384 + i) (get_or records (32768 + own) 0)) (32768 + own) i)
-    record-linked own its small names = record {
+    record_linked own its small names = record {
       found = record {
         size = rw (length-set, length-set) index.found.size;
         few = index.found.few;
         starts = λ k within. get_or-set_other led (32768 + own) k i 0 (omega (arith, index.found.few)) ∙ get_or-set_other records (16384 + i) k _ 0 (omega (arith, index.found.few)) ∙ index.found.starts k within;
       };
       linked =
-          link-one (has_record f) (record_count f) i inside index.linked own small (omega (arith, index.found.few))
+          link_one (has_record f) (record_count f) i inside index.linked own small (omega (arith, index.found.few))
           (λ place. rw (names, ← its))
           (get_or-set_other led (32768 + own) (16384 + i) i 0 (omega (arith, index.found.few)) ∙ get_or-set_same records (16384 + i) _ 0 (omega (arith, index.found.few, index.found.size)))
           (get_or-set_same led (32768 + own) i 0 (rw length-set (omega (arith, index.found.size))))
@@ -85,40 +85,40 @@ module _ (f : List ℕ) where
         led = set records (16384 + i) (get_or records (32768 + own) 0)
 
   -- a number's place tells whom it names, where the record names anybody
-  subject-tells : (subject : Subject) (kind number : ℕ) → eqb kind (kind_of subject) ≡ ((eqb kind 1 || eqb kind 2) && eqb (place_of (eqb kind 2) number) (place_of (is_thread_subject subject) number))
+  subject_tells : (subject : Subject) (kind number : ℕ) → eqb kind (kind_of subject) ≡ ((eqb kind 1 || eqb kind 2) && eqb (place_of (eqb kind 2) number) (place_of (is_thread_subject subject) number))
   unfolding is_thread_subject kind_of
-  subject-tells Event kind number = by (eqb kind 1) (eqb kind 2) refl refl
+  subject_tells Event kind number = by (eqb kind 1) (eqb kind 2) refl refl
     where
       by : (event thread : Bool) → eqb kind 1 ≡ event → eqb kind 2 ≡ thread → event ≡ ((event || thread) && eqb (place_of thread number) (place_of false number))
       by true true one two = absurd (true≢false (sym one ∙ rw (eqb-true kind 2 two)))
-      by true false one two = sym (place-tells false false number)
-      by false true one two = sym (place-tells true false number)
+      by true false one two = sym (place_tells false false number)
+      by false true one two = sym (place_tells true false number)
       by false false one two = refl
-  subject-tells Thread kind number = by (eqb kind 1) (eqb kind 2)
+  subject_tells Thread kind number = by (eqb kind 1) (eqb kind 2)
     where
       by : (event thread : Bool) → thread ≡ ((event || thread) && eqb (place_of thread number) (place_of true number))
-      by true true = sym (place-tells true true number)
-      by true false = sym (place-tells false true number)
-      by false true = sym (place-tells true true number)
+      by true true = sym (place_tells true true number)
+      by true false = sym (place_tells false true number)
+      by false true = sym (place_tells true true number)
       by false false = refl
 
-  pub seeks-record : (subject : Subject) (number : ℕ)
+  pub seeks_record : (subject : Subject) (number : ℕ)
       → Seeks (has_record f) (place_of (is_thread_subject subject) number) (λ k. number_at f (record_at f k)) number (λ k. is_sought_at (Naming subject number) f (record_at f k))
   unfolding is_sought_at
-  seeks-record subject number = record {
-    alike = λ k same. rw (same, eq-eqb number number refl, and-true) (subject-tells subject (kind_at f (record_at f k)) number);
+  seeks_record subject number = record {
+    alike = λ k same. rw (same, eq-eqb number number refl, and-true) (subject_tells subject (kind_at f (record_at f k)) number);
     unlike = λ k other. rw (ne_eqb (number_at f (record_at f k)) number other, and-false);
   }
 
   -- where a way ends: the name there, or none
   module _ (subject : Subject) (number to : ℕ) (ends : Ends (λ k. is_sought_at (Naming subject number) f (record_at f k)) (record_count f) to) where
-    pub record-inside : (to ≡ 65535 → ⊥) → to < record_count f
-    record-inside other = ⊎_elim (λ there. there.1) (λ none. absurd (other none.0)) ends
+    pub record_inside : (to ≡ 65535 → ⊥) → to < record_count f
+    record_inside other = ⊎_elim (λ there. there.1) (λ none. absurd (other none.0)) ends
 
-    pub record-named : (to ≡ 65535 → ⊥) → record_name subject f number ≡ name_at f (record_at f to)
+    pub record_named : (to ≡ 65535 → ⊥) → record_name subject f number ≡ name_at f (record_at f to)
     unfolding record_name
-    record-named other = ⊎_elim (λ there. rw (← there.0, lt-ltb to (record_count f) there.1)) (λ none. absurd (other none.0)) ends
+    record_named other = ⊎_elim (λ there. rw (← there.0, lt-ltb to (record_count f) there.1)) (λ none. absurd (other none.0)) ends
 
-    pub record-nameless : record_count f ≤ 16384 → to ≡ 65535 → record_name subject f number ≡ Nameless
+    pub record_nameless : record_count f ≤ 16384 → to ≡ 65535 → record_name subject f number ≡ Nameless
     unfolding record_name
-    record-nameless few nowhere = ⊎_elim (λ there. absurd (omega (arith, there.1))) (λ none. rw (← none.1, le-ltb (record_count f) (record_count f) (omega arith))) ends
+    record_nameless few nowhere = ⊎_elim (λ there. absurd (omega (arith, there.1))) (λ none. rw (← none.1, le-ltb (record_count f) (record_count f) (omega arith))) ends

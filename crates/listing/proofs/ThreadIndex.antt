@@ -17,34 +17,34 @@ use Rattle.trace.specs.declared.Name.TheVariants.{Nameless}
 use Rattle.trace.specs.declared.ThreadKind.{ThreadKind}
 use Rattle.trace.specs.declared.ThreadKind.TheVariants.{Gone, Live}
 use Rattle.trace.specs.declared.Wanted.TheVariants.{Thread}
-use Rattle.listing.proofs.Follows.{Seeks, place-tells}
-use Rattle.listing.proofs.Links.{link-none, link-one, link_start}
+use Rattle.listing.proofs.Follows.{Seeks, place_tells}
+use Rattle.listing.proofs.Links.{link_none, link_one, link_start}
 use Rattle.listing.specs.Index.{Ends, place_of}
 use Rattle.listing.specs.ThreadIndex.{Threads, has_thread, is_gone_kind}
 
 module _ (s : List ℕ) (h : Header) where
-  pub threads-start : entry_count h ≤ 3274 → Threads s h (entry_count h) (replicate 7370 65535)
-  threads-start few = record {
+  pub threads_start : entry_count h ≤ 3274 → Threads s h (entry_count h) (replicate 7370 65535)
+  threads_start few = record {
     size = length-replicate {A = ℕ} 7370 65535;
     few = few;
     linked = link_start (has_thread s h) (entry_count h) _ _ (omega arith) (λ place below. get_or-replicate {A = ℕ} 7370 (3274 + place) 65535 0 (omega arith));
   }
 
   module _ (i : ℕ) (links : List ℕ) (inside : i < entry_count h) (threads : Threads s h (suc i) links) where
-    pub thread-none : is_thread_at s (entry_at h i) ≡ false → Threads s h i links
-    thread-none none = record {
+    pub thread_none : is_thread_at s (entry_at h i) ≡ false → Threads s h i links
+    thread_none none = record {
       size = threads.size;
       few = threads.few;
-      linked = link-none (has_thread s h) (entry_count h) i inside threads.linked (λ place. rw (none, and-false));
+      linked = link_none (has_thread s h) (entry_count h) i inside threads.linked (λ place. rw (none, and-false));
     }
 
-    pub thread-linked : (own : ℕ) → own ≡ place_of (is_gone_kind (kind_at s (entry_at h i))) (pointer_at h.order s (entry_at h i)) → own < 4096 → is_thread_at s (entry_at h i) ≡ true
+    pub thread_linked : (own : ℕ) → own ≡ place_of (is_gone_kind (kind_at s (entry_at h i))) (pointer_at h.order s (entry_at h i)) → own < 4096 → is_thread_at s (entry_at h i) ≡ true
         → Threads s h i (set (set links i (get_or links (3274 + own) 0)) (3274 + own) i)
-    thread-linked own its small thread = record {
+    thread_linked own its small thread = record {
       size = rw (length-set, length-set) threads.size;
       few = threads.few;
       linked =
-          link-one (has_thread s h) (entry_count h) i inside threads.linked own small (omega (arith, threads.few))
+          link_one (has_thread s h) (entry_count h) i inside threads.linked own small (omega (arith, threads.few))
           (λ place. rw (thread, its, and-true))
           (get_or-set_other led (3274 + own) i i 0 (omega (arith, threads.few)) ∙ get_or-set_same links i _ 0 (omega (arith, threads.few, threads.size)))
           (get_or-set_same led (3274 + own) i 0 (rw length-set (omega (arith, threads.size))))
@@ -56,31 +56,31 @@ module _ (s : List ℕ) (h : Header) where
         led = set links i (get_or links (3274 + own) 0)
 
   -- a pointer's place tells the kind
-  kind-tells : (kind : ThreadKind) (used : Bool) (pointer : ℕ) → eqb (place_of (is_gone_kind (cond used Live Gone)) pointer) (place_of (is_gone_kind kind) pointer) ≡ is_of_kind kind used
+  kind_tells : (kind : ThreadKind) (used : Bool) (pointer : ℕ) → eqb (place_of (is_gone_kind (cond used Live Gone)) pointer) (place_of (is_gone_kind kind) pointer) ≡ is_of_kind kind used
   unfolding is_gone_kind
-  kind-tells Live true pointer = place-tells false false pointer
-  kind-tells Live false pointer = place-tells true false pointer
-  kind-tells Gone true pointer = place-tells false true pointer
-  kind-tells Gone false pointer = place-tells true true pointer
+  kind_tells Live true pointer = place_tells false false pointer
+  kind_tells Live false pointer = place_tells true false pointer
+  kind_tells Gone true pointer = place_tells false true pointer
+  kind_tells Gone false pointer = place_tells true true pointer
 
-  pub seeks-thread : (kind : ThreadKind) (pointer : ℕ)
+  pub seeks_thread : (kind : ThreadKind) (pointer : ℕ)
       → Seeks (has_thread s h) (place_of (is_gone_kind kind) pointer) (λ k. pointer_at h.order s (entry_at h k)) pointer (is_wanted (Thread kind pointer) s h)
   unfolding is_wanted_at
-  seeks-thread kind pointer = record {
-    alike = λ k same. rw (same, eq-eqb pointer pointer refl, kind-tells kind (is_in_use s (entry_at h k)) pointer, and-true);
+  seeks_thread kind pointer = record {
+    alike = λ k same. rw (same, eq-eqb pointer pointer refl, kind_tells kind (is_in_use s (entry_at h k)) pointer, and-true);
     unlike = λ k other. rw (ne_eqb (pointer_at h.order s (entry_at h k)) pointer other, and-false);
   }
 
   -- where a way ends: the name there, or none; and that the entry is one of 32 bits
   module _ (kind : ThreadKind) (pointer to : ℕ) (ends : Ends (is_wanted (Thread kind pointer) s h) (entry_count h) to) where
-    pub thread-named : (to ≡ 65535 → ⊥) → thread_name kind s h pointer ≡ entry_name kind s h to
+    pub thread_named : (to ≡ 65535 → ⊥) → thread_name kind s h pointer ≡ entry_name kind s h to
     unfolding name_if_entry thread_name
-    thread-named other = ⊎_elim (λ there. rw (← there.0, lt-ltb to (entry_count h) there.1)) (λ none. absurd (other none.0)) ends
+    thread_named other = ⊎_elim (λ there. rw (← there.0, lt-ltb to (entry_count h) there.1)) (λ none. absurd (other none.0)) ends
 
     module _ (few : entry_count h ≤ 3274) where
-      pub thread-nameless : to ≡ 65535 → thread_name kind s h pointer ≡ Nameless
+      pub thread_nameless : to ≡ 65535 → thread_name kind s h pointer ≡ Nameless
       unfolding name_if_entry thread_name
-      thread-nameless nowhere = ⊎_elim (λ there. absurd (omega (arith, there.1))) (λ none. rw (← none.1, le-ltb (entry_count h) (entry_count h) (omega arith))) ends
+      thread_nameless nowhere = ⊎_elim (λ there. absurd (omega (arith, there.1))) (λ none. rw (← none.1, le-ltb (entry_count h) (entry_count h) (omega arith))) ends
 
-      pub thread-small : to < 2 ^ 32
-      thread-small = ⊎_elim (λ there. omega (arith, there.1)) (λ none. omega (arith, none.0)) ends
+      pub thread_small : to < 2 ^ 32
+      thread_small = ⊎_elim (λ there. omega (arith, there.1)) (λ none. omega (arith, none.0)) ends

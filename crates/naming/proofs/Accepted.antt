@@ -9,9 +9,9 @@ use native.Mathlib.Omega.{arith}
 use borrow.Author.Tests.{eq-eqb, eqb-true, le-ltb, lt-ltb, ltb-true}
 use lib.Dec.{eqb, ltb}
 use lib.ListN.{length}
-use Rattle.rows.proofs.Lowest.{none-hit}
+use Rattle.rows.proofs.Lowest.{none_hit}
 use Rattle.rows.proofs.Numbered.{by_number}
-use Rattle.rows.proofs.Rows.{here, further, kept-too, one_kept, then-broken, unbroken}
+use Rattle.rows.proofs.Rows.{here, further, kept_too, one_kept, then_broken, unbroken}
 use Rattle.rows.specs.Rows.{Accepted, first_broken, refusal}
 use Rattle.rows.specs.declared.Refusal.{Refusal}
 use Rattle.rows.specs.declared.Verdict.TheVariants.{Passed, Refused}
@@ -28,9 +28,9 @@ Faulty f at = (length f < end_at f at) ⊎ (((kind_at f at ≡ 1) ⊎ (kind_at f
 
 module _ (f : List ℕ) where
   -- which is what a search for a damaged record hits
-  pub hit-faulty : (at : ℕ) → is_sought_at Damaged f at ≡ true → Faulty f at
+  pub hit_faulty : (at : ℕ) → is_sought_at Damaged f at ≡ true → Faulty f at
   unfolding is_sought_at
-  hit-faulty at = by (ltb (length f) (end_at f at)) (eqb (kind_at f at) 1) (eqb (kind_at f at) 2) (ltb (length_at f at) 4) refl refl refl refl
+  hit_faulty at = by (ltb (length f) (end_at f at)) (eqb (kind_at f at) 1) (eqb (kind_at f at) 2) (ltb (length_at f at) 4) refl refl refl refl
     where
       by : (past one two short : Bool) → ltb (length f) (end_at f at) ≡ past → eqb (kind_at f at) 1 ≡ one → eqb (kind_at f at) 2 ≡ two → ltb (length_at f at) 4 ≡ short
           → (past || ((one || two) && short)) ≡ true → Faulty f at
@@ -41,16 +41,16 @@ module _ (f : List ℕ) where
       by false false true false runs_past is_one is-two is-short hit = absurd (true≢false (sym hit))
       by false false false short runs_past is_one is-two is-short hit = absurd (true≢false (sym hit))
 
-  pub faulty-hit : (at : ℕ) → Faulty f at → is_sought_at Damaged f at ≡ true
+  pub faulty_hit : (at : ℕ) → Faulty f at → is_sought_at Damaged f at ≡ true
   unfolding is_sought_at
-  faulty-hit at (inl past) = rw (lt-ltb _ _ past)
-  faulty-hit at (inr (inl one, short)) = rw (eq-eqb _ _ one, lt-ltb _ _ short, or-true)
-  faulty-hit at (inr (inr two, short)) = rw (eq-eqb (kind_at f at) 2 two, or-true, lt-ltb _ _ short, or-true)
+  faulty_hit at (inl past) = rw (lt-ltb _ _ past)
+  faulty_hit at (inr (inl one, short)) = rw (eq-eqb _ _ one, lt-ltb _ _ short, or-true)
+  faulty_hit at (inr (inr two, short)) = rw (eq-eqb (kind_at f at) 2 two, or-true, lt-ltb _ _ short, or-true)
 
   -- a file that is refused by 27 has such a record, at the place given
-  pub refused-at : (at : ℕ) → first_broken (file_rows (some f)) ≡ Refused (record { number = 27; place = at }) → (has_record Damaged f ≡ true) × (record_at f (first_record Damaged f) ≡ at)
+  pub refused_at : (at : ℕ) → first_broken (file_rows (some f)) ≡ Refused (record { number = 27; place = at }) → (has_record Damaged f ≡ true) × (record_at f (first_record Damaged f) ≡ at)
   unfolding first_broken row2 row27
-  refused-at at refused = by (has_record Damaged f) refl (by_number (file_rows (some f)) (record { number = 27; place = at }) refused)
+  refused_at at refused = by (has_record Damaged f) refl (by_number (file_rows (some f)) (record { number = 27; place = at }) refused)
     where
       by : (b : Bool) → has_record Damaged f ≡ b → cond b (Refused (refusal (row27 f))) Passed ≡ Refused (record { number = 27; place = at })
           → (has_record Damaged f ≡ true) × (record_at f (first_record Damaged f) ≡ at)
@@ -60,33 +60,33 @@ module _ (f : List ℕ) where
       by false whole same = (cc, cc)
 
   -- and one of at most 65,536 bytes that has such a record is refused so
-  pub damaged-refused : length f ≤ most_bytes → has_record Damaged f ≡ true → first_broken (file_rows (some f)) ≡ Refused (record { number = 27; place = record_at f (first_record Damaged f) })
+  pub damaged_refused : length f ≤ most_bytes → has_record Damaged f ≡ true → first_broken (file_rows (some f)) ≡ Refused (record { number = 27; place = record_at f (first_record Damaged f) })
   unfolding row2 row27
-  damaged-refused short damaged = then-broken (row2 (length f) ∷ []) (row27 f) [] (one_kept (row2 (length f)) (le-ltb most_bytes (length f) short)) damaged
+  damaged_refused short damaged = then_broken (row2 (length f) ∷ []) (row27 f) [] (one_kept (row2 (length f)) (le-ltb most_bytes (length f) short)) damaged
 
-  pub whole-accepted : length f ≤ most_bytes → has_record Damaged f ≡ false → Accepted (file_rows (some f))
+  pub whole_accepted : length f ≤ most_bytes → has_record Damaged f ≡ false → Accepted (file_rows (some f))
   unfolding row2 row27
-  whole-accepted short whole = kept-too (row2 (length f)) _ (le-ltb most_bytes (length f) short) (one_kept (row27 f) whole)
+  whole_accepted short whole = kept_too (row2 (length f)) _ (le-ltb most_bytes (length f) short) (one_kept (row27 f) whole)
 
   module _ (accepted : Accepted (file_rows (some f))) where
-    pub accepted-whole : has_record Damaged f ≡ false
+    pub accepted_whole : has_record Damaged f ≡ false
     unfolding row27
-    accepted-whole = unbroken accepted (row27 f) (further here)
+    accepted_whole = unbroken accepted (row27 f) (further here)
 
     -- of an accepted file no record is faulty
-    not-faulty : (i : ℕ) → i < record_count f → Faulty f (record_at f i) → ⊥
-    not-faulty i inside faulty =
-        true≢false (sym (faulty-hit (record_at f i) faulty) ∙ none-hit (λ k. is_sought_at Damaged f (record_at f k)) (record_count f) accepted-whole i inside)
+    not_faulty : (i : ℕ) → i < record_count f → Faulty f (record_at f i) → ⊥
+    not_faulty i inside faulty =
+        true≢false (sym (faulty_hit (record_at f i) faulty) ∙ none_hit (λ k. is_sought_at Damaged f (record_at f k)) (record_count f) accepted_whole i inside)
 
-    pub record-within : (i : ℕ) → i < record_count f → end_at f (record_at f i) ≤ length f
-    record-within i inside =
-        let whole : length f < end_at f (record_at f i) → ⊥ = λ past. not-faulty i inside (inl past) in
+    pub record_within : (i : ℕ) → i < record_count f → end_at f (record_at f i) ≤ length f
+    record_within i inside =
+        let whole : length f < end_at f (record_at f i) → ⊥ = λ past. not_faulty i inside (inl past) in
         omega arith
 
-    pub number-within : (subject : Subject) (i : ℕ) → i < record_count f → kind_at f (record_at f i) ≡ kind_of subject → 4 ≤ length_at f (record_at f i)
+    pub number_within : (subject : Subject) (i : ℕ) → i < record_count f → kind_at f (record_at f i) ≡ kind_of subject → 4 ≤ length_at f (record_at f i)
     unfolding kind_of
-    number-within subject i inside kind =
-        let long : length_at f (record_at f i) < 4 → ⊥ = λ short. not-faulty i inside (inr (named subject kind, short)) in
+    number_within subject i inside kind =
+        let long : length_at f (record_at f i) < 4 → ⊥ = λ short. not_faulty i inside (inr (named subject kind, short)) in
         omega arith
       where
         named : (subject : Subject) → kind_at f (record_at f i) ≡ kind_of subject → (kind_at f (record_at f i) ≡ 1) ⊎ (kind_at f (record_at f i) ≡ 2)

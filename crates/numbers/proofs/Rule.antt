@@ -9,10 +9,10 @@ use native.Mathlib.Omega.{arith}
 use borrow.Author.Tests.{eqb-true, lt-ltb}
 use lib.Dec.{eqb}
 use lib.ListN.{drop, length}
-use Rattle.text.proofs.Digits.{digits-hundred, digits-one, digits-pair, number-bare}
+use Rattle.text.proofs.Digits.{digits_hundred, digits_one, digits_pair, number_bare}
 use Rattle.text.specs.Numbers.{digit, digits, is_bare, number, pair}
 use Rattle.numbers.specs.Pairs.{HasPairs, digits_by, number_by, pair_by, pairs}
-use Rattle.numbers.proofs.Steps.{bare-by, by-hundred, by_one, by-pair}
+use Rattle.numbers.proofs.Steps.{bare_by, by_hundred, by_one, by_pair}
 
 -- whether a table has the digits of n, those of the next number, and so on to its end
 abbrev goes_on : ℕ → List ℕ → Bool
@@ -35,24 +35,24 @@ told (suc k) n (a ∷ b ∷ rest) right within =
     let next : n + suc k ≡ suc n + k = omega arith in
     rw (second, first, next) (told k (suc n) rest behind (omega arith))
 
-pub pairs-rule : HasPairs pairs
+pub pairs_rule : HasPairs pairs
 unfolding pairs
-pairs-rule n below = rw (zero-add n) at (told n 0 pairs refl (omega arith))
+pairs_rule n below = rw (zero-add n) at (told n 0 pairs refl (omega arith))
 
 -- a table by which every number is its text has the rule: a pair stands alone, or behind a first digit
-pub has-pairs : (table : List ℕ) → ((n : ℕ) → number_by table n ≡ number n) → HasPairs table
+pub has_pairs : (table : List ℕ) → ((n : ℕ) → number_by table n ≡ number n) → HasPairs table
 unfolding is_bare
-has-pairs table right n below = by (dec_lt n 10)
+has_pairs table right n below = by (dec_lt n 10)
   where
     same : (m : ℕ) → m < 10000000000 → digits_by table m ≡ digits m
     same m small =
         let bare = lt-ltb m (2 ^ 53) (omega arith) in
-        sym (bare-by table m bare) ∙ right m ∙ number-bare m bare
+        sym (bare_by table m bare) ∙ right m ∙ number_bare m bare
 
     by : Dec (n < 10) → pair_by table n ≡ pair n
     by (yes one) =
         let head : (100 + n) / 100 ≡ 1 = omega arith in
         let last : (100 + n) % 100 ≡ n = omega arith in
-        let behind = rw (by-hundred table (100 + n) (omega arith), digits-hundred (100 + n) (omega arith), head, last, by_one table 1 (omega arith), digits-one 1 (omega arith)) at (same (100 + n) (omega arith)) in
+        let behind = rw (by_hundred table (100 + n) (omega arith), digits_hundred (100 + n) (omega arith), head, last, by_one table 1 (omega arith), digits_one 1 (omega arith)) at (same (100 + n) (omega arith)) in
         ap (drop 1) behind
-    by (no two) = rw (by-pair table n (omega arith) below, digits-pair n (omega arith) below) at (same n (omega arith))
+    by (no two) = rw (by_pair table n (omega arith) below, digits_pair n (omega arith) below) at (same n (omega arith))

@@ -9,7 +9,7 @@ use Rattle.rows.specs.Rows.{Row, first_broken, refusal}
 use Rattle.rows.specs.declared.Refusal.{Refusal}
 use Rattle.rows.specs.declared.Verdict.{Verdict}
 use Rattle.rows.specs.declared.Verdict.TheVariants.{Passed, Refused}
-use Rattle.rows.proofs.Rows.{then-refused, then-rest}
+use Rattle.rows.proofs.Rows.{then_refused, then_rest}
 
 -- the rows that have a number
 abbrev pub numbered : ℕ → List Row → List Row
@@ -34,25 +34,25 @@ by_number (r ∷ rs) f e = by r.broken (eqb r.number f.number) refl refl e (by_n
 -- of rows of which some refuse
 module _ (rs more : List Row) (f : Refusal) (refused : first_broken (rs ++ more) ≡ Refused f) where
   -- those in front have passed where none of them with that number is broken
-  pub front-passed : first_broken (numbered f.number rs) ≡ Passed → first_broken rs ≡ Passed
-  front-passed none = by (first_broken rs) refl
+  pub front_passed : first_broken (numbered f.number rs) ≡ Passed → first_broken rs ≡ Passed
+  front_passed none = by (first_broken rs) refl
     where
       by : (v : Verdict) → first_broken rs ≡ v → v ≡ Passed
       by Passed e = refl
       by (Refused g) e =
-          let same : Refused g ≡ Refused f = then-refused rs more g e ∙ refused in
+          let same : Refused g ≡ Refused f = then_refused rs more g e ∙ refused in
           same ∙ sym (by_number rs f (e ∙ same)) ∙ none
 
   -- as where none of them has it
-  pub front-without : numbered f.number rs ≡ [] → first_broken rs ≡ Passed
+  pub front_without : numbered f.number rs ≡ [] → first_broken rs ≡ Passed
   unfolding first_broken
-  front-without none = front-passed (ap first_broken none)
+  front_without none = front_passed (ap first_broken none)
 
   -- and they are those that refuse where none of the others has it
-  pub front-refused : numbered f.number more ≡ [] → first_broken rs ≡ Refused f
+  pub front_refused : numbered f.number more ≡ [] → first_broken rs ≡ Refused f
   unfolding first_broken
-  front-refused none = by (first_broken rs) refl
+  front_refused none = by (first_broken rs) refl
     where
       by : (v : Verdict) → first_broken rs ≡ v → v ≡ Refused f
-      by Passed e = sym (ap first_broken none) ∙ by_number more f (then-rest rs more e ∙ refused)
-      by (Refused g) e = then-refused rs more g e ∙ refused
+      by Passed e = sym (ap first_broken none) ∙ by_number more f (then_rest rs more e ∙ refused)
+      by (Refused g) e = then_refused rs more g e ∙ refused

@@ -8,13 +8,13 @@ use Rattle.rows.specs.declared.Verdict.{Verdict}
 use Rattle.rows.specs.declared.Verdict.TheVariants.{Passed, Refused}
 
 -- an earlier refusal stays
-pub refused-stays : (f : Refusal) (rs : List Row) → after_rows (Refused f) rs ≡ Refused f
+pub refused_stays : (f : Refusal) (rs : List Row) → after_rows (Refused f) rs ≡ Refused f
 unfolding after_row
-refused-stays f [] = refl
-refused-stays f (r ∷ rs) = refused-stays f rs
+refused_stays f [] = refl
+refused_stays f (r ∷ rs) = refused_stays f rs
 
 chosen : (b : Bool) (f : Refusal) (more : List Row) (v w : Verdict) → after_rows v more ≡ w → after_rows (cond b (Refused f) v) more ≡ cond b (Refused f) w
-chosen true f more v w e = refused-stays f more
+chosen true f more v w e = refused_stays f more
 chosen false f more v w e = e
 
 -- rows in order, and then further rows, are all of them in order
@@ -35,38 +35,38 @@ then_same rs others {more} {behind} say same = sym (in_order rs more) ∙ ap₂ 
 
 -- further rows change no refusal, and decide where the rows before them have passed
 module _ (rs more : List Row) where
-  pub then-refused : (f : Refusal) → first_broken rs ≡ Refused f → Refused f ≡ first_broken (rs ++ more)
-  then-refused f e = sym (refused-stays f more) ∙ rw e at (in_order rs more)
+  pub then_refused : (f : Refusal) → first_broken rs ≡ Refused f → Refused f ≡ first_broken (rs ++ more)
+  then_refused f e = sym (refused_stays f more) ∙ rw e at (in_order rs more)
 
-  pub then-more : first_broken rs ≡ Passed → after_rows Passed more ≡ first_broken (rs ++ more)
-  then-more e = rw e at (in_order rs more)
+  pub then_more : first_broken rs ≡ Passed → after_rows Passed more ≡ first_broken (rs ++ more)
+  then_more e = rw e at (in_order rs more)
 
-  pub then-rest : first_broken rs ≡ Passed → first_broken more ≡ first_broken (rs ++ more)
-  then-rest e = sym (from_start more) ∙ then-more e
+  pub then_rest : first_broken rs ≡ Passed → first_broken more ≡ first_broken (rs ++ more)
+  then_rest e = sym (from_start more) ∙ then_more e
 
-  pub then-kept : first_broken more ≡ Passed → first_broken (rs ++ more) ≡ first_broken rs
-  then-kept kept = by (first_broken rs) refl
+  pub then_kept : first_broken more ≡ Passed → first_broken (rs ++ more) ≡ first_broken rs
+  then_kept kept = by (first_broken rs) refl
     where
       by : (v : Verdict) → first_broken rs ≡ v → first_broken (rs ++ more) ≡ v
-      by Passed e = sym (then-rest e) ∙ kept
-      by (Refused f) e = sym (then-refused f e)
+      by Passed e = sym (then_rest e) ∙ kept
+      by (Refused f) e = sym (then_refused f e)
 
   -- rows have passed where they and further rows have
-  pub passed-before : first_broken (rs ++ more) ≡ Passed → first_broken rs ≡ Passed
-  passed-before passed = by (first_broken rs) refl
+  pub passed_before : first_broken (rs ++ more) ≡ Passed → first_broken rs ≡ Passed
+  passed_before passed = by (first_broken rs) refl
     where
       by : (v : Verdict) → first_broken rs ≡ v → v ≡ Passed
       by Passed e = refl
-      by (Refused f) e = then-refused f e ∙ passed
+      by (Refused f) e = then_refused f e ∙ passed
 
 -- rows that have passed, and then one that is broken
-pub then-broken : (rs : List Row) (r : Row) (more : List Row) → first_broken rs ≡ Passed → r.broken ≡ true → first_broken (rs ++ (r ∷ more)) ≡ Refused (refusal r)
+pub then_broken : (rs : List Row) (r : Row) (more : List Row) → first_broken rs ≡ Passed → r.broken ≡ true → first_broken (rs ++ (r ∷ more)) ≡ Refused (refusal r)
 unfolding first_broken
-then-broken rs r more passed broken = sym (then-rest rs (r ∷ more) passed) ∙ rw broken
+then_broken rs r more passed broken = sym (then_rest rs (r ∷ more) passed) ∙ rw broken
 
 -- one row more after a verdict that is known
-pub row-after : {v w x : Verdict} (r : Row) → x ≡ after_row v r → v ≡ w → x ≡ after_row w r
-row-after r e f = e ∙ ap (λ v. after_row v r) f
+pub row_after : {v w x : Verdict} (r : Row) → x ≡ after_row v r → v ≡ w → x ≡ after_row w r
+row_after r e f = e ∙ ap (λ v. after_row v r) f
 
 past : (b : Bool) (f : Refusal) (v : Verdict) → cond b (Refused f) v ≡ Passed → (b ≡ false) × (v ≡ Passed)
 past true f v e = (cc, cc)
@@ -80,18 +80,18 @@ pub data Among (r : Row) : List Row → Type 0 where
 pub ruleset among = (here, further)
 
 -- of rows that passed none is broken
-kept-among : (r : Row) {rs : List Row} → Among r rs → first_broken rs ≡ Passed → r.broken ≡ false
+kept_among : (r : Row) {rs : List Row} → Among r rs → first_broken rs ≡ Passed → r.broken ≡ false
 unfolding first_broken
-kept-among r (here {rs}) passed = (past r.broken (refusal r) (first_broken rs) passed).0
-kept-among r (further {other} {rs} behind) passed = kept-among r behind (past other.broken (refusal other) (first_broken rs) passed).1
+kept_among r (here {rs}) passed = (past r.broken (refusal r) (first_broken rs) passed).0
+kept_among r (further {other} {rs} behind) passed = kept_among r behind (past other.broken (refusal other) (first_broken rs) passed).1
 
 pub unbroken : {rs : List Row} → first_broken rs ≡ Passed → (r : Row) → Among r rs → r.broken ≡ false
-unbroken passed r stands = kept-among r stands passed
+unbroken passed r stands = kept_among r stands passed
 
 -- and rows of which none is broken pass: one row more
-pub kept-too : (r : Row) (rs : List Row) → r.broken ≡ false → first_broken rs ≡ Passed → first_broken (r ∷ rs) ≡ Passed
+pub kept_too : (r : Row) (rs : List Row) → r.broken ≡ false → first_broken rs ≡ Passed → first_broken (r ∷ rs) ≡ Passed
 unfolding first_broken
-kept-too r rs e passed = rw e passed
+kept_too r rs e passed = rw e passed
 
 -- a single row passes or refuses
 module _ (r : Row) where
@@ -99,6 +99,6 @@ module _ (r : Row) where
   unfolding first_broken
   one_kept e = rw e
 
-  pub one-broken : r.broken ≡ true → first_broken (r ∷ []) ≡ Refused (refusal r)
+  pub one_broken : r.broken ≡ true → first_broken (r ∷ []) ≡ Refused (refusal r)
   unfolding first_broken
-  one-broken e = rw e
+  one_broken e = rw e

@@ -3,16 +3,16 @@ use Prim.Native.Nat.{◌≤◌}
 use mathlib.Core.Path.{sym, ◌∙◌}
 use native.Mathlib.Omega.{arith}
 use lib.ListN.{get_or}
-use Rattle.arguments.proofs.Digits.{begun, digit-range, not_digit, one_more, right, too_large, wrong-empty}
+use Rattle.arguments.proofs.Digits.{begun, digit_range, not_digit, one_more, right, too_large, wrong_empty}
 use Rattle.arguments.proofs.number_in.Goals as goal
 use Rattle.arguments.proofs.number_in.Goals.{Else-not-is_digit}
 
 -- the byte read is a digit
 digit : (c : Else-not-is_digit) → (48 ≤ get_or c.args.text.now c.loop-i.i 0) × (get_or c.args.text.now c.loop-i.i 0 ≤ 57)
-digit c = digit-range _ (sym c.is_digit.ensures ∙ c.if-not-is_digit.false)
+digit c = digit_range _ (sym c.is_digit.ensures ∙ c.if-not-is_digit.false)
 
 pub returns-then-text-eq0 : goal.returns-then-text-eq0
-returns-then-text-eq0 c = let a = c.args in wrong-empty a.text.now a.most c.if-text-eq0.true
+returns-then-text-eq0 c = let a = c.args in wrong_empty a.text.now a.most c.if-text-eq0.true
 
 pub loop-i-init : goal.loop-i-init
 loop-i-init c = (omega arith, omega arith, begun c.args.text.now)

@@ -3,7 +3,7 @@ use Prim.Native.Nat.{◌+◌, ◌-◌, ◌≤◌}
 use mathlib.Core.Path.{◌≡◌, refl, sym, ap, ◌∙◌}
 use native.Mathlib.Omega.{arith}
 use lib.ListN.{get_or}
-use Rattle.rows.proofs.Lowest.{count-le, count-more}
+use Rattle.rows.proofs.Lowest.{count_le, count_more}
 use Rattle.rows.specs.Lowest.{count}
 use borrow.Author.Rules.{rules}
 use Rattle.console.specs.Changed.{is_no_dot}
@@ -37,13 +37,13 @@ counted : (c : tie.After-one-if-changed invariant-loop decreases-loop)
 counted c =
     let loop = c.before.before.before in
     let a = loop.before.before.before.args in
-    rw (loop.loop.invariant.1, c.one-if-changed.ensures, c.before.byte.ensures) (sym (count-more (λ i. is_no_dot (get_or a.bytes.now (a.from + i) 0)) loop.loop.k))
+    rw (loop.loop.invariant.1, c.one-if-changed.ensures, c.before.byte.ensures) (sym (count_more (λ i. is_no_dot (get_or a.bytes.now (a.from + i) 0)) loop.loop.k))
 
 add-changed : tie.Need-overflow-add-changed invariant-loop decreases-loop
 add-changed c =
     let loop = c.before.before.before in
     let a = loop.before.before.before.args in
-    omega (arith, counted c, count-le (λ i. is_no_dot (get_or a.bytes.now (a.from + i) 0)) (loop.loop.k + 1))
+    omega (arith, counted c, count_le (λ i. is_no_dot (get_or a.bytes.now (a.from + i) 0)) (loop.loop.k + 1))
 
 add-k : tie.Need-overflow-add-k invariant-loop decreases-loop
 add-k c = omega arith

@@ -4,13 +4,13 @@ use mathlib.Core.Path.{sym, ◌∙◌}
 use lib.ListN.{length}
 use Rattle.writing.proofs.Answers.{by-passing, by-refusal}
 use Rattle.writing.specs.Writing.{filing}
-use Rattle.filer.proofs.Ends.{ends-within}
+use Rattle.filer.proofs.Ends.{ends_within}
 use Rattle.filer.proofs.write_name.Goals as goal
 
 pub put_record-requires : goal.put_record-requires
 put_record-requires c =
     let a = c.args in
-    ends-within (a.offset + (8 + length a.name.now)) (length a.names.now) (sym c.record_verdict.ensures ∙ c.in-Passed.is)
+    ends_within (a.offset + (8 + length a.name.now)) (length a.names.now) (sym c.record_verdict.ensures ∙ c.in-Passed.is)
 
 pub returns-in-Refused : goal.returns-in-Refused
 unfolding filing

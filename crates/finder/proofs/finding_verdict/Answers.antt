@@ -2,18 +2,18 @@
 use mathlib.Core.Option.{some}
 use mathlib.Core.Path.{sym, ◌∙◌}
 use Rattle.naming.specs.Records.{file_rows, if_given}
-use Rattle.rows.proofs.Rows.{then-refused, then-rest}
+use Rattle.rows.proofs.Rows.{then_refused, then_rest}
 use Rattle.trace.specs.Table.{registry_rows}
 use Rattle.finder.proofs.finding_verdict.Goals as goal
 
 pub returns-in-Refused : goal.returns-in-Refused
 returns-in-Refused c =
     let a = c.args in
-    then-refused (registry_rows a.dump.now a.header) (file_rows (some a.names.now)) _ (sym c.registry_verdict.ensures ∙ c.in-Refused.is)
+    then_refused (registry_rows a.dump.now a.header) (file_rows (some a.names.now)) _ (sym c.registry_verdict.ensures ∙ c.in-Refused.is)
 
 pub returns-in-Passed : goal.returns-in-Passed
 unfolding if_given
 returns-in-Passed c =
     let a = c.args in
     c.file_verdict.ensures
-    ∙ then-rest (registry_rows a.dump.now a.header) (file_rows (some a.names.now)) (sym c.registry_verdict.ensures ∙ c.in-Passed.is)
+    ∙ then_rest (registry_rows a.dump.now a.header) (file_rows (some a.names.now)) (sym c.registry_verdict.ensures ∙ c.in-Passed.is)

@@ -1,5 +1,5 @@
 -- `lepsaino::argument_at` meets its contract.
-use Rattle.arguments.proofs.Digits.{within-most}
+use Rattle.arguments.proofs.Digits.{within_most}
 use borrow.Author.Rules.{rules}
 use Rattle.lepsaino.proofs.argument_at.Statement.{statement}
 use Rattle.lepsaino.proofs.argument_at.Tie as tie
@@ -23,7 +23,7 @@ number-in-requires : tie.Need-number-in-requires
 number-in-requires c κs = search rules
 
 returns : tie.Need-returns
-returns c = rw c.number_in.ensures (within-most _ c.before.before.before.before.before.before.args.most)
+returns c = rw c.number_in.ensures (within_most _ c.before.before.before.before.before.before.args.most)
 
 pub argument-at-spec : {M : Type 1} → statement M
 argument-at-spec =

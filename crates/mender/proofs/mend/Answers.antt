@@ -4,9 +4,9 @@ use mathlib.Core.Path.{◌≡◌, sym, ◌∙◌}
 use borrow.Author.Tests.{ltb-false}
 use lib.ListN.{length}
 use lib.Seq.{length-take-le}
-use Rattle.mending.proofs.Packed.{copy-length}
+use Rattle.mending.proofs.Packed.{copy_length}
 use Rattle.mending.specs.Mending.{mend_of, mending_rows}
-use Rattle.rows.proofs.Rows.{among, passed-before, unbroken}
+use Rattle.rows.proofs.Rows.{among, passed_before, unbroken}
 use Rattle.rows.specs.Rows.{first_broken}
 use Rattle.rows.specs.declared.Verdict.TheVariants.{Passed, Refused}
 use Rattle.trace.specs.Layout.{buffer_end, header_of}
@@ -37,7 +37,7 @@ pub repair-requires : goal.repair-requires
 repair-requires c =
     let a = c.args in
     let h = c.header_of-header.result in
-    (passed-before (layout_rows h (length a.dump.now)) _ (passed (goal.at.repair-requires c).In-Passed), length-take-le _ _ (room (goal.at.repair-requires c).In-Passed) ∙ c.offset_from-end.ensures)
+    (passed_before (layout_rows h (length a.dump.now)) _ (passed (goal.at.repair-requires c).In-Passed), length-take-le _ _ (room (goal.at.repair-requires c).In-Passed) ∙ c.offset_from-end.ensures)
 
 pub returns-in-Refused : goal.returns-in-Refused
 unfolding mend_of
@@ -56,4 +56,4 @@ returns-in-Passed c =
     let header = c.header_of-header.ensures in
     let accepted = rw header at (passed (goal.at.returns-in-Passed c).In-Passed) in
     let end = rw header at c.offset_from-end.ensures in
-    (rw (accepted, end, c.repair.ensures.0, header), rw (accepted, end, copy-length s (header_of s), c.repair.ensures.1, header))
+    (rw (accepted, end, c.repair.ensures.0, header), rw (accepted, end, copy_length s (header_of s), c.repair.ensures.1, header))

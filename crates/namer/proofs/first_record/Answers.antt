@@ -6,7 +6,7 @@ use native.Mathlib.Omega.{arith}
 use lib.ListN.{length}
 use borrow.Author.Count.{below_more, below_none}
 use borrow.Author.Tests.{lt-ltb}
-use Rattle.naming.proofs.Records.{count-inside, first-here, none-there}
+use Rattle.naming.proofs.Records.{count_inside, first_here, none_there}
 use Rattle.naming.specs.Records.{record_at, record_count}
 use Rattle.namer.specs.Searches.{sought_at}
 use Rattle.namer.proofs.first_record.Goals as goal
@@ -34,7 +34,7 @@ unfolding sought_at
 returns-then-at-names c =
     let a = c.args in
     let come = c.loop-at.invariant in
-    rw (none-there a.names.now a.sought come.index come.missed (omega (arith, come.starts)))
+    rw (none_there a.names.now a.sought come.index come.missed (omega (arith, come.starts)))
 
 pub returns-then-is_sought : goal.returns-then-is_sought
 unfolding sought_at
@@ -43,5 +43,5 @@ returns-then-is_sought c =
     let come = c.loop-at.invariant in
     let starts : record_at a.names.now come.index < length a.names.now = omega (arith, come.starts) in
     let hit = sym c.is_sought.ensures ∙ c.if-is_sought.true in
-    let first = first-here a.names.now a.sought come.index come.missed starts (rw come.starts at hit) in
-    rw (← first, lt-ltb come.index (record_count a.names.now) (count-inside a.names.now come.index starts)) come.starts
+    let first = first_here a.names.now a.sought come.index come.missed starts (rw come.starts at hit) in
+    rw (← first, lt-ltb come.index (record_count a.names.now) (count_inside a.names.now come.index starts)) come.starts

@@ -6,7 +6,7 @@ use borrow.Author.Tests.{le-ltb, lt-ltb}
 use Rattle.rows.specs.Rows.{first_broken}
 use Rattle.trace.specs.Layout.{most_bytes}
 use Rattle.trace.specs.Table.{row2}
-use Rattle.namer.proofs.Searches.{row27-by}
+use Rattle.namer.proofs.Searches.{row27_by}
 use Rattle.namer.proofs.given_verdict.Goals as goal
 
 pub returns-then-names-gt-MOST_BYTES : goal.returns-then-names-gt-MOST_BYTES
@@ -17,4 +17,4 @@ pub returns : goal.returns
 unfolding first_broken row2
 returns c =
     let names = c.args.names.now in
-    rw (le-ltb most_bytes (length names) (omega (arith, c.if-names-gt-MOST_BYTES.false))) (rw c.first_record-at.ensures at c.after.ensures ∙ row27-by names)
+    rw (le-ltb most_bytes (length names) (omega (arith, c.if-names-gt-MOST_BYTES.false))) (rw c.first_record-at.ensures at c.after.ensures ∙ row27_by names)

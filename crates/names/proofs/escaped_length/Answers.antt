@@ -3,7 +3,7 @@ use mathlib.Core.Path.{refl}
 use native.Mathlib.Omega.{arith}
 use lib.ListN.{length-append}
 use lib.Seq.{take_all}
-use Rattle.text.proofs.Escapes.{escaped-next}
+use Rattle.text.proofs.Escapes.{escaped_next}
 use Rattle.text.specs.Names.{escaped}
 use Rattle.names.proofs.escaped_length.Goals as goal
 
@@ -20,7 +20,7 @@ loop-i-smaller c = omega arith
 pub loop-i-preserved : goal.loop-i-preserved
 loop-i-preserved c =
     let l = c.loop-i in
-    let next = escaped-next c.args.bytes.now l.i c.loop-i-test.true in
+    let next = escaped_next c.args.bytes.now l.i c.loop-i-test.true in
     (omega arith, rw (next, length-append) (omega (arith, l.invariant.1, c.escape_length.ensures, c.sum-length.ensures)))
 
 pub returns : goal.returns

@@ -4,7 +4,7 @@ use mathlib.Core.Path.{sym, ◌∙◌}
 use native.Mathlib.Omega.{arith}
 use lib.ListN.{length}
 use borrow.Author.Tests.{leb-true, leb-false}
-use Rattle.text.proofs.Output.{none-fitted, put-fitted}
+use Rattle.text.proofs.Output.{none_fitted, put_fitted}
 use Rattle.text.specs.Names.{if_named, name}
 use Rattle.names.proofs.fit_some.Goals as goal
 use Rattle.names.proofs.fit_some.Goals.{Start}
@@ -19,11 +19,11 @@ returns-then-has_room c =
     let s = c in
     let text = name (some s.args.bytes.now) in
     let out = s.args.out.now in
-    put-fitted text (omega arith) (leb-true (length text) (length out) (sym c.has_room.ensures ∙ c.if-has_room.true)) c.put_quoted.ensures
+    put_fitted text (omega arith) (leb-true (length text) (length out) (sym c.has_room.ensures ∙ c.if-has_room.true)) c.put_quoted.ensures
 
 pub returns : goal.returns
 unfolding if_named
 returns c =
     let s = c in
     let text = name (some s.args.bytes.now) in
-    none-fitted text (leb-false (length text) (length s.args.out.now) (sym c.has_room.ensures ∙ c.if-has_room.false)) c.name_length.ensures
+    none_fitted text (leb-false (length text) (length s.args.out.now) (sym c.has_room.ensures ∙ c.if-has_room.false)) c.name_length.ensures

@@ -5,8 +5,8 @@ use mathlib.Core.Path.{refl, sym}
 use native.Mathlib.Omega.{arith}
 use lib.ListN.{length}
 use borrow.Author.Tests.{le-leb}
-use Rattle.text.proofs.Escapes.{count-name, escaped-short, name-some}
-use Rattle.text.proofs.Output.{leb-capped}
+use Rattle.text.proofs.Escapes.{count_name, escaped_short, name_some}
+use Rattle.text.proofs.Output.{leb_capped}
 use Rattle.text.specs.Names.{name}
 use Rattle.names.proofs.has_room.Goals as goal
 use Rattle.names.proofs.has_room.Goals.{Start}
@@ -15,10 +15,10 @@ pub returns-then-room-bytes : goal.returns-then-room-bytes
 returns-then-room-bytes c =
     let s = c in
     let bytes = s.args.bytes.now in
-    sym (le-leb (length (name (some bytes))) s.args.room (omega (arith, count-name bytes, escaped-short bytes)))
+    sym (le-leb (length (name (some bytes))) s.args.room (omega (arith, count_name bytes, escaped_short bytes)))
 
 pub returns : goal.returns
 returns c =
     let s = c in
     let bytes = s.args.bytes.now in
-    rw (c.name_length.ensures, name-some true bytes refl) (leb-capped (length (name (some bytes))) s.args.room (omega arith))
+    rw (c.name_length.ensures, name_some true bytes refl) (leb_capped (length (name (some bytes))) s.args.room (omega arith))

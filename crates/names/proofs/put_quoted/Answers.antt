@@ -1,37 +1,37 @@
 -- `names::put_quoted` meets its contract: a quote, the escaped bytes, a quote, each into the rest.
 use native.Mathlib.Omega.{arith}
-use Rattle.text.proofs.Escapes.{count-name}
-use Rattle.text.proofs.Output.{at_most, is-put, on-from, on-to}
+use Rattle.text.proofs.Escapes.{count_name}
+use Rattle.text.proofs.Output.{at_most, is_put, on_from, on_to}
 use Rattle.text.specs.Ascii.{ascii}
 use Rattle.text.specs.Names.{name}
 use Rattle.text.specs.Numbers.{quoted}
 use Rattle.names.proofs.put_quoted.Goals as goal
 
 pub slice_bounds-put_escaped-count : goal.slice_bounds-put_escaped-count
-slice_bounds-put_escaped-count c = omega (arith, at_most _ c.put_bytes-at.ensures, count-name c.args.bytes.now)
+slice_bounds-put_escaped-count c = omega (arith, at_most _ c.put_bytes-at.ensures, count_name c.args.bytes.now)
 
 pub slice_bounds-put_escaped-start : goal.slice_bounds-put_escaped-start
-slice_bounds-put_escaped-start c = omega (arith, at_most _ c.put_bytes-at.ensures, count-name c.args.bytes.now)
+slice_bounds-put_escaped-start c = omega (arith, at_most _ c.put_bytes-at.ensures, count_name c.args.bytes.now)
 
 pub put_escaped-at-requires : goal.put_escaped-at-requires
-put_escaped-at-requires c = omega (arith, at_most _ c.put_bytes-at.ensures, count-name c.args.bytes.now)
+put_escaped-at-requires c = omega (arith, at_most _ c.put_bytes-at.ensures, count_name c.args.bytes.now)
 
 pub overflow_add-at : goal.overflow_add-at
-overflow_add-at c = omega (arith, at_most _ c.put_bytes-at.ensures, count-name c.args.bytes.now)
+overflow_add-at c = omega (arith, at_most _ c.put_bytes-at.ensures, count_name c.args.bytes.now)
 
 pub slice_bounds-put_bytes-count : goal.slice_bounds-put_bytes-count
-slice_bounds-put_bytes-count c = omega (arith, at_most _ c.put_bytes-at.ensures, count-name c.args.bytes.now)
+slice_bounds-put_bytes-count c = omega (arith, at_most _ c.put_bytes-at.ensures, count_name c.args.bytes.now)
 
 pub slice_bounds-put_bytes-start : goal.slice_bounds-put_bytes-start
-slice_bounds-put_bytes-start c = omega (arith, at_most _ c.put_bytes-at.ensures, count-name c.args.bytes.now)
+slice_bounds-put_bytes-start c = omega (arith, at_most _ c.put_bytes-at.ensures, count_name c.args.bytes.now)
 
 pub overflow_add-result : goal.overflow_add-result
 overflow_add-result c =
-    omega (arith, at_most _ c.put_bytes-at.ensures, at_most _ c.put_bytes.ensures, count-name c.args.bytes.now)
+    omega (arith, at_most _ c.put_bytes-at.ensures, at_most _ c.put_bytes.ensures, count_name c.args.bytes.now)
 
 pub returns : goal.returns
 unfolding name quoted
 returns c =
-    let two-more = count-name c.args.bytes.now in
-    let first = is-put (ascii "\"") c.args.out.now (omega arith) c.put_bytes-at.ensures in
-    on-to _ (ascii "\"") (on-from _ _ first c.put_escaped-at.ensures) c.put_bytes.ensures (omega (arith, first.count))
+    let two-more = count_name c.args.bytes.now in
+    let first = is_put (ascii "\"") c.args.out.now (omega arith) c.put_bytes-at.ensures in
+    on_to _ (ascii "\"") (on_from _ _ first c.put_escaped-at.ensures) c.put_bytes.ensures (omega (arith, first.count))

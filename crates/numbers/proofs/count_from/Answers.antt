@@ -5,19 +5,19 @@ use mathlib.Core.Path.{◌≡◌, sym, ap, ◌∙◌}
 use native.Mathlib.Omega.{arith}
 use lib.ListN.{length}
 use lib.Pow.{pow-add}
-use Rattle.text.proofs.Digits.{count-is}
+use Rattle.text.proofs.Digits.{count_is}
 use Rattle.text.specs.Numbers.{digits}
 use Rattle.numbers.proofs.count_from.Goals as goal
 
 later : (j count limit x : ℕ) → limit ≡ 10 ^ count → 1 ≤ count → limit * 10 ^ j ≤ x * 10 → x < limit * 10 ^ j → count + j ≡ length (digits x)
 later j count limit x power some low high =
-    sym (count-is (count + j) (limit * 10 ^ j) x (ap (λ (n : ℕ). n * 10 ^ j) power ∙ sym (pow-add 10 count j)) (omega arith) (inr low) high)
+    sym (count_is (count + j) (limit * 10 ^ j) x (ap (λ (n : ℕ). n * 10 ^ j) power ∙ sym (pow-add 10 count j)) (omega arith) (inr low) high)
 
 pub returns-then-x-limit : goal.returns-then-x-limit
 returns-then-x-limit c =
     let a = c.args in
     let known = c.requires in
-    sym (count-is a.count a.limit a.x known.power known.some known.low c.if-x-limit.true)
+    sym (count_is a.count a.limit a.x known.power known.some known.low c.if-x-limit.true)
 
 pub overflow_mul-limit : goal.overflow_mul-limit
 overflow_mul-limit c = omega arith

@@ -7,12 +7,12 @@ use native.Mathlib.Omega.{arith}
 use lib.Dec.{ltb}
 use lib.ListN.{length}
 use borrow.Author.Tests.{lt-ltb, ltb-true, ltb-false}
-use Rattle.text.proofs.Digits.{count-quotes}
-use Rattle.text.proofs.Output.{none-fitted, put-fitted}
+use Rattle.text.proofs.Digits.{count_quotes}
+use Rattle.text.proofs.Output.{none_fitted, put_fitted}
 use Rattle.text.specs.Numbers.{is_bare, number}
 use Rattle.numbers.specs.Pairs.{digits_by, number_by}
-use Rattle.numbers.proofs.Alike.{number-count}
-use Rattle.numbers.proofs.Steps.{bare-by, quoted-by}
+use Rattle.numbers.proofs.Alike.{number_count}
+use Rattle.numbers.proofs.Steps.{bare_by, quoted_by}
 use Rattle.numbers.proofs.fit_number.Goals as goal
 
 bare-small : (x : ℕ) → is_bare x ≡ true → x < 10000000000000000
@@ -21,15 +21,15 @@ bare-small x bare = omega (arith, ltb-true x (2 ^ 53) bare)
 
 bare-below : (table : List ℕ) (x : ℕ) → x < 10000000000 → number_by table x ≡ digits_by table x
 unfolding is_bare
-bare-below table x h = bare-by table x (lt-ltb x (2 ^ 53) (omega arith))
+bare-below table x h = bare_by table x (lt-ltb x (2 ^ 53) (omega arith))
 
 room : (table : List ℕ) (x : ℕ) (out : List ℕ) {short : Bool} → short ≡ ltb (length out) (length (number x)) → short ≡ false → length (number_by table x) ≤ length out
-room table x out told long = rw (number-count table x) (ltb-false (length out) (length (number x)) (sym told ∙ long))
+room table x out told long = rw (number_count table x) (ltb-false (length out) (length (number x)) (sym told ∙ long))
 
 pub returns-then-is_short : goal.returns-then-is_short
 returns-then-is_short c =
     let s = c in
-    none-fitted (number_by s.args.pairs.now s.args.x) (rw (number-count s.args.pairs.now s.args.x) (ltb-true (length s.args.out.now) (length (number s.args.x)) (sym c.is_short.ensures ∙ c.if-is_short.true))) (omega (arith, c.number_length.ensures, number-count s.args.pairs.now s.args.x))
+    none_fitted (number_by s.args.pairs.now s.args.x) (rw (number_count s.args.pairs.now s.args.x) (ltb-true (length s.args.out.now) (length (number s.args.x)) (sym c.is_short.ensures ∙ c.if-is_short.true))) (omega (arith, c.number_length.ensures, number_count s.args.pairs.now s.args.x))
 
 pub put_low-requires : goal.put_low-requires
 put_low-requires c =
@@ -41,7 +41,7 @@ pub returns-then-x-lt100000000 : goal.returns-then-x-lt100000000
 returns-then-x-lt100000000 c =
     let a = c.args in
     let fits = room a.pairs.now a.x a.out.now c.is_short.ensures c.if-is_short.false in
-    put-fitted _ (omega arith) fits (rw (bare-below a.pairs.now a.x (omega arith)) c.put_low.ensures)
+    put_fitted _ (omega arith) fits (rw (bare-below a.pairs.now a.x (omega arith)) c.put_low.ensures)
 
 pub put_middle-requires : goal.put_middle-requires
 put_middle-requires c =
@@ -53,30 +53,30 @@ pub returns-then-x-lt10000000000 : goal.returns-then-x-lt10000000000
 returns-then-x-lt10000000000 c =
     let a = c.args in
     let fits = room a.pairs.now a.x a.out.now c.is_short.ensures c.if-is_short.false in
-    put-fitted _ (omega arith) fits (rw (bare-below a.pairs.now a.x (omega arith)) c.put_middle.ensures)
+    put_fitted _ (omega arith) fits (rw (bare-below a.pairs.now a.x (omega arith)) c.put_middle.ensures)
 
 pub put_high-requires : goal.put_high-requires
 put_high-requires c =
     let a = c.args in
     let fits = room a.pairs.now a.x a.out.now c.is_short.ensures c.if-is_short.false in
     let bare = sym c.is_bare.ensures ∙ c.if-is_bare.true in
-    (omega arith, omega (arith, bare-small a.x bare), omega (arith, ap length (bare-by a.pairs.now a.x bare)))
+    (omega arith, omega (arith, bare-small a.x bare), omega (arith, ap length (bare_by a.pairs.now a.x bare)))
 
 pub returns-then-is_bare : goal.returns-then-is_bare
 returns-then-is_bare c =
     let a = c.args in
     let fits = room a.pairs.now a.x a.out.now c.is_short.ensures c.if-is_short.false in
-    put-fitted _ (omega arith) fits (rw (bare-by a.pairs.now a.x (sym c.is_bare.ensures ∙ c.if-is_bare.true)) c.put_high.ensures)
+    put_fitted _ (omega arith) fits (rw (bare_by a.pairs.now a.x (sym c.is_bare.ensures ∙ c.if-is_bare.true)) c.put_high.ensures)
 
 pub put_quoted-requires : goal.put_quoted-requires
 put_quoted-requires c =
     let a = c.args in
     let fits = room a.pairs.now a.x a.out.now c.is_short.ensures c.if-is_short.false in
     let big = sym c.is_bare.ensures ∙ c.if-is_bare.false in
-    (omega arith, omega (arith, ap length (quoted-by a.pairs.now a.x big), count-quotes (digits_by a.pairs.now a.x)))
+    (omega arith, omega (arith, ap length (quoted_by a.pairs.now a.x big), count_quotes (digits_by a.pairs.now a.x)))
 
 pub returns : goal.returns
 returns c =
     let a = c.args in
     let fits = room a.pairs.now a.x a.out.now c.is_short.ensures c.if-is_short.false in
-    put-fitted _ (omega arith) fits (rw (quoted-by a.pairs.now a.x (sym c.is_bare.ensures ∙ c.if-is_bare.false)) c.put_quoted.ensures)
+    put_fitted _ (omega arith) fits (rw (quoted_by a.pairs.now a.x (sym c.is_bare.ensures ∙ c.if-is_bare.false)) c.put_quoted.ensures)

@@ -4,12 +4,12 @@ use mathlib.Core.Path.{◌≡◌, refl}
 use native.Mathlib.Omega.{arith}
 use lib.ListN.{length}
 use Rattle.numbers.specs.Pairs.{digits_by}
-use Rattle.numbers.proofs.Steps.{count-eight, with-eight}
+use Rattle.numbers.proofs.Steps.{count_eight, with_eight}
 use Rattle.numbers.proofs.put_middle.Goals as goal
 use Rattle.numbers.proofs.put_middle.Goals.{Start}
 
 counted : (s : Start) → length (digits_by s.args.pairs.now s.args.x) ≡ length (digits_by s.args.pairs.now (s.args.x / 100000000)) + 8
-counted s = count-eight s.args.pairs.now s.args.x (omega arith)
+counted s = count_eight s.args.pairs.now s.args.x (omega arith)
 
 pub put_short-at-requires : goal.put_short-at-requires
 put_short-at-requires c = (omega arith, omega (arith, counted (goal.at.put_short-at-requires c).Start))
@@ -20,4 +20,4 @@ append_eight-requires c = (omega arith, omega (arith, counted (goal.at.append_ei
 pub returns : goal.returns
 returns c =
     let a = c.args in
-    with-eight a.pairs.now a.x _ (omega arith) refl c.put_short-at.ensures c.append_eight.ensures
+    with_eight a.pairs.now a.x _ (omega arith) refl c.put_short-at.ensures c.append_eight.ensures

@@ -5,7 +5,7 @@ use mathlib.Core.Path.{◌≡◌}
 use native.Mathlib.Omega.{arith}
 use lib.ListN.{length, length-drop, length-set, length-take, set}
 use borrow.Rule.Slice.PartMut.{put_mid}
-use Rattle.text.proofs.Output.{byte-behind, on-from, put_same, stores}
+use Rattle.text.proofs.Output.{byte_behind, on_from, put_same, stores}
 use Rattle.text.specs.Ascii.{ascii}
 use Rattle.text.specs.Numbers.{quoted}
 use Rattle.text.specs.Output.{Put}
@@ -18,7 +18,7 @@ opened : (c : After-slice_known-2-1)
     → let s = c in
     let old = s.args.out.now in
     Put (ascii "\"" ++ digits_by s.args.pairs.now s.args.x) old (put_mid 1 (length (set old 0 34) - 1) (set old 0 34) c.put_long-at.new.out) (1 + c.put_long-at.result)
-opened c = let old = c.args.out.now in on-from _ _ (stores (ascii "\"") old (omega arith)) c.put_long-at.ensures
+opened c = let old = c.args.out.now in on_from _ _ (stores (ascii "\"") old (omega arith)) c.put_long-at.ensures
 
 same : (c : After-slice_known-2-1) → let old = c.args.out.now in length (put_mid 1 (length (set old 0 34) - 1) (set old 0 34) c.put_long-at.new.out) ≡ length old
 same c = put_same (opened c) (omega (arith, (opened c).count))
@@ -37,7 +37,7 @@ bounds-out-at c = omega (arith, same c)
 
 pub returns : goal.returns
 unfolding quoted
-returns c = byte-behind 34 (opened c) (omega (arith, same c))
+returns c = byte_behind 34 (opened c) (omega (arith, same c))
 
 pub shape_of-out : goal.shape_of-out
 shape_of-out c = put_same (returns c) (omega (arith, (opened c).count))

@@ -3,23 +3,23 @@ use mathlib.Core.List.{[], ◌∷◌}
 use native.Mathlib.Omega.{arith}
 use Rattle.text.proofs.Output.{stores}
 use Rattle.text.specs.Numbers.{digit}
-use Rattle.numbers.proofs.Steps.{by_one, by-pair, count-one, count-pair}
+use Rattle.numbers.proofs.Steps.{by_one, by_pair, count_one, count_pair}
 use Rattle.numbers.proofs.put_short.Goals as goal
 
 pub bounds-out-0 : goal.bounds-out-0
-bounds-out-0 c = let a = c.args in omega (arith, count-one a.pairs.now a.x c.if-x-lt10.true)
+bounds-out-0 c = let a = c.args in omega (arith, count_one a.pairs.now a.x c.if-x-lt10.true)
 
 pub returns-then-x-lt10 : goal.returns-then-x-lt10
 returns-then-x-lt10 c =
     let a = c.args in
-    rw (by_one a.pairs.now a.x c.if-x-lt10.true) (stores (digit a.x ∷ []) a.out.now (omega (arith, count-one a.pairs.now a.x c.if-x-lt10.true)))
+    rw (by_one a.pairs.now a.x c.if-x-lt10.true) (stores (digit a.x ∷ []) a.out.now (omega (arith, count_one a.pairs.now a.x c.if-x-lt10.true)))
 
 pub put_pair-requires : goal.put_pair-requires
 put_pair-requires c =
     let s = c in
-    (s.requires.0, omega (arith, count-pair s.args.pairs.now s.args.x c.if-x-lt10.false s.requires.0))
+    (s.requires.0, omega (arith, count_pair s.args.pairs.now s.args.x c.if-x-lt10.false s.requires.0))
 
 pub returns : goal.returns
 returns c =
     let s = c in
-    rw (by-pair s.args.pairs.now s.args.x c.if-x-lt10.false s.requires.0) c.put_pair.ensures
+    rw (by_pair s.args.pairs.now s.args.x c.if-x-lt10.false s.requires.0) c.put_pair.ensures

@@ -3,11 +3,11 @@ use mathlib.Core.Path.{◌≡◌, refl, ◌∙◌}
 use native.Mathlib.Omega.{arith}
 use lib.ListN.{length, length-set}
 use lib.Seq.{take-length}
-use Rattle.text.proofs.Output.{copy-next, put_all, put-none}
+use Rattle.text.proofs.Output.{copy_next, put_all, put_none}
 use Rattle.output.proofs.put_bytes.Goals as goal
 
 pub returns-then-out-bytes : goal.returns-then-out-bytes
-returns-then-out-bytes c = put-none c.args.bytes.now c.args.out.now c.if-out-bytes.true
+returns-then-out-bytes c = put_none c.args.bytes.now c.args.out.now c.if-out-bytes.true
 
 pub loop-i-init : goal.loop-i-init
 loop-i-init c = (omega arith, refl, refl)
@@ -25,7 +25,7 @@ pub loop-i-preserved : goal.loop-i-preserved
 loop-i-preserved c =
     let s = c in
     let l = c.loop-i in
-    (omega arith, simp length-set l.invariant.1, rw l.invariant.2 (copy-next s.args.bytes.now s.args.out.now l.i c.loop-i-test.true (omega arith)))
+    (omega arith, simp length-set l.invariant.1, rw l.invariant.2 (copy_next s.args.bytes.now s.args.out.now l.i c.loop-i-test.true (omega arith)))
 
 pub shape_of-out : goal.shape_of-out
 shape_of-out c = c.loop-i.invariant.1

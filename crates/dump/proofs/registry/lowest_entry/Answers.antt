@@ -5,15 +5,15 @@ use mathlib.Core.Path.{◌≡◌, ◌∙◌, sym}
 use native.Mathlib.Decide.{dec_lt}
 use native.Mathlib.Omega.{arith}
 use borrow.Author.Count.{below_none, below_more}
-use Rattle.header.proofs.Steps.{entries-are, entry-below}
-use Rattle.rows.proofs.Lowest.{lowest-none, lowest-at}
+use Rattle.header.proofs.Steps.{entries_are, entry_below}
+use Rattle.rows.proofs.Lowest.{lowest_none, lowest_at}
 use Rattle.trace.specs.Layout.{entry_count}
 use Rattle.trace.specs.Registry.{is_wanted}
 use Rattle.dump.proofs.registry.lowest_entry.Goals as goal
 use Rattle.dump.proofs.registry.lowest_entry.Goals.{After-geometry_of-geometry, After-passed_over-i, Else-i-entries}
 
 all : (c : After-geometry_of-geometry) → c.geometry_of-geometry.result.entries ≡ entry_count c.args.header
-all c = entries-are c.args.header c.geometry_of-geometry.result c.geometry_of-geometry.ensures
+all c = entries_are c.args.header c.geometry_of-geometry.result c.geometry_of-geometry.ensures
 
 pub loop-i-init : goal.loop-i-init
 loop-i-init c = (omega arith, below_none _)
@@ -41,7 +41,7 @@ room : (c : Else-i-entries)
     → let g = c.geometry_of-geometry.result in
     48 + c.passed_over-i.result * g.entry_size + g.entry_size < 2 ^ 33
 room c =
-    entry-below c.args.header c.geometry_of-geometry.result c.geometry_of-geometry.ensures c.passed_over-i.result (below c)
+    entry_below c.args.header c.geometry_of-geometry.result c.geometry_of-geometry.ensures c.passed_over-i.result (below c)
 
 pub overflow_mul-i : goal.overflow_mul-i
 overflow_mul-i c = omega (arith, room c)
@@ -67,11 +67,11 @@ pub returns-then-i-entries : goal.returns-then-i-entries
 returns-then-i-entries c =
     let a = c.args in
     all (goal.at.returns-then-i-entries c).After-geometry_of-geometry
-    ∙ lowest-none (is_wanted a.wanted a.dump.now a.header) (entry_count a.header) (λ k l. missed (goal.at.returns-then-i-entries c).After-passed_over-i k (omega (arith, all (goal.at.returns-then-i-entries c).After-geometry_of-geometry)))
+    ∙ lowest_none (is_wanted a.wanted a.dump.now a.header) (entry_count a.header) (λ k l. missed (goal.at.returns-then-i-entries c).After-passed_over-i k (omega (arith, all (goal.at.returns-then-i-entries c).After-geometry_of-geometry)))
 
 pub returns-then-is_wanted : goal.returns-then-is_wanted
 returns-then-is_wanted c =
     let a = c.args in
     let hit = sym c.is_wanted.ensures ∙ c.if-is_wanted.true in
-    lowest-at (is_wanted a.wanted a.dump.now a.header) (entry_count a.header) c.passed_over-i.result
+    lowest_at (is_wanted a.wanted a.dump.now a.header) (entry_count a.header) c.passed_over-i.result
     (omega (arith, below (goal.at.returns-then-is_wanted c).Else-i-entries, all (goal.at.returns-then-is_wanted c).After-geometry_of-geometry)) (missed (goal.at.returns-then-is_wanted c).After-passed_over-i) (rw c.geometry_of-geometry.ensures at hit)

@@ -6,8 +6,8 @@ use native.Mathlib.Nat.{lt_of_mul-lt-mul_right}
 use native.Mathlib.Omega.{arith}
 use lib.ListN.{length}
 use borrow.Author.Count.{below_more}
-use Rattle.header.proofs.Steps.{step-more, entries-are, entries_below, entry-below}
-use Rattle.trace.proofs.SameBytes.{part-wanted}
+use Rattle.header.proofs.Steps.{step_more, entries_are, entries_below, entry_below}
+use Rattle.trace.proofs.SameBytes.{part_wanted}
 use Rattle.trace.specs.Layout.{entry_count}
 use Rattle.trace.specs.Registry.{is_wanted}
 use Rattle.dump.proofs.registry.passed_over.Goals as goal
@@ -19,7 +19,7 @@ ends c = entries_below c.args.header c.geometry_of-geometry.result c.geometry_of
 
 -- the first one asked is one of them, or behind the last
 asked : (c : After-geometry_of-geometry) → c.args.from ≤ c.geometry_of-geometry.result.entries
-asked c = rw (entries-are c.args.header c.geometry_of-geometry.result c.geometry_of-geometry.ensures) c.requires
+asked c = rw (entries_are c.args.header c.geometry_of-geometry.result c.geometry_of-geometry.ensures) c.requires
 
 pub overflow_mul-entries : goal.overflow_mul-entries
 overflow_mul-entries c = omega (arith, ends c c.geometry_of-geometry.result.entries (omega arith))
@@ -63,7 +63,7 @@ overflow_add-i c = omega (arith, below (goal.at.overflow_add-i c).Else-end-at)
 pub overflow_add-at-in-loop-at-2 : goal.overflow_add-at-in-loop-at-2
 overflow_add-at-in-loop-at-2 c =
     let g = c.geometry_of-geometry in
-    omega (arith, entry-below c.args.header g.result g.ensures c.loop-at.i (below (goal.at.overflow_add-at-in-loop-at-2 c).Else-end-at))
+    omega (arith, entry_below c.args.header g.result g.ensures c.loop-at.i (below (goal.at.overflow_add-at-in-loop-at-2 c).Else-end-at))
 
 pub loop-at-smaller : goal.loop-at-smaller
 loop-at-smaller c = omega (arith, below (goal.at.loop-at-smaller c).Else-end-at)
@@ -72,8 +72,8 @@ pub loop-at-preserved : goal.loop-at-preserved
 loop-at-preserved c =
     let g = c.geometry_of-geometry.result in
     let a = c.args in
-    let miss = sym (part-wanted a.wanted a.header.order a.dump.now c.loop-at.at (c.loop-at.at + 8 - c.loop-at.at) (omega arith)) ∙ c.may_be_wanted.ensures c.if-may_be_wanted.false in
-    (omega arith, omega (arith, below (goal.at.loop-at-preserved c).Else-end-at), omega (arith, step-more c.loop-at.i g.entry_size), below_more _ _ c.loop-at.invariant.3 (λ m. rw c.loop-at.invariant.2 at miss))
+    let miss = sym (part_wanted a.wanted a.header.order a.dump.now c.loop-at.at (c.loop-at.at + 8 - c.loop-at.at) (omega arith)) ∙ c.may_be_wanted.ensures c.if-may_be_wanted.false in
+    (omega arith, omega (arith, below (goal.at.loop-at-preserved c).Else-end-at), omega (arith, step_more c.loop-at.i g.entry_size), below_more _ _ c.loop-at.invariant.3 (λ m. rw c.loop-at.invariant.2 at miss))
 
 -- no entry that is passed over is wanted, as the definition says it
 passed : (c : At-loop-at)
@@ -81,7 +81,7 @@ passed : (c : At-loop-at)
     (a.from ≤ c.loop-at.i) × (c.loop-at.i ≤ entry_count a.header) × ((k : ℕ) → k < c.loop-at.i → a.from ≤ k → is_wanted a.wanted a.dump.now a.header k ≡ false)
 passed c =
     let g = c.geometry_of-geometry in
-    (c.loop-at.invariant.0, rw (entries-are c.args.header g.result g.ensures) at c.loop-at.invariant.1, λ k l m. rw g.ensures at (c.loop-at.invariant.3 k l m))
+    (c.loop-at.invariant.0, rw (entries_are c.args.header g.result g.ensures) at c.loop-at.invariant.1, λ k l m. rw g.ensures at (c.loop-at.invariant.3 k l m))
 
 pub returns-then-end-at : goal.returns-then-end-at
 returns-then-end-at c = passed (goal.at.returns-then-end-at c).At-loop-at

@@ -5,7 +5,7 @@ use native.Mathlib.Numerals.{add-one}
 use native.Mathlib.Omega.{arith}
 use lib.ListN.{length, length-replicate}
 use Rattle.naming.specs.Records.{end_at, record_at}
-use Rattle.listing.proofs.RecordIndex.{found_all, found-more, found_none, record-few}
+use Rattle.listing.proofs.RecordIndex.{found_all, found_more, found_none, record_few}
 use Rattle.listing.proofs.records.find_all.Goals as goal
 use Rattle.listing.proofs.records.find_all.Goals.{In-loop-at}
 
@@ -18,7 +18,7 @@ inside : (c : In-loop-at) → let names = c.args.names.now in record_at names c.
 inside c = omega (arith, c.loop-at.invariant.0, c.loop-at-test.true)
 
 few : (c : In-loop-at) → c.loop-at.i < 16384
-few c = record-few c.args.names.now c.requires.0 c.loop-at.i (inside c)
+few c = record_few c.args.names.now c.requires.0 c.loop-at.i (inside c)
 
 pub overflow_cast-records : goal.overflow_cast-records
 overflow_cast-records c = omega (arith, c.loop-at-test.true, c.requires.0)
@@ -46,7 +46,7 @@ unfolding record_at
 loop-at-preserved c =
     let turn = c.loop-at in
     let names = c.args.names.now in
-    (rw (add-one, c.half.ensures) (ap (end_at names) turn.invariant.0), rw (add-one, turn.invariant.0) (found-more names c.requires.0 turn.i turn.records (inside (goal.at.loop-at-preserved c).In-loop-at) turn.invariant.1))
+    (rw (add-one, c.half.ensures) (ap (end_at names) turn.invariant.0), rw (add-one, turn.invariant.0) (found_more names c.requires.0 turn.i turn.records (inside (goal.at.loop-at-preserved c).In-loop-at) turn.invariant.1))
 
 pub shape_of-records : goal.shape_of-records
 shape_of-records c = c.loop-at.invariant.1.starts.size ∙ rw c.requires.1 (sym (length-replicate {A = ℕ} 36864 65535))

@@ -4,11 +4,11 @@ use mathlib.Core.Logic.{inl, inr}
 use mathlib.Core.Path.{◌≡◌, sym, ◌∙◌}
 use native.Mathlib.Omega.{arith}
 use lib.ListN.{get_or, length}
-use Rattle.naming.proofs.Records.{inside-count}
+use Rattle.naming.proofs.Records.{inside_count}
 use Rattle.naming.specs.Records.{is_sought_at, record_at, record_count}
 use Rattle.naming.specs.declared.Sought.TheVariants.{Naming}
-use Rattle.listing.proofs.Follows.{Reached, comes-first, comes-hit, comes-inside, comes-next, comes-past, leads-on}
-use Rattle.listing.proofs.RecordIndex.{seeks-record}
+use Rattle.listing.proofs.Follows.{Reached, comes_first, comes_hit, comes_inside, comes_next, comes_past, leads_on}
+use Rattle.listing.proofs.RecordIndex.{seeks_record}
 use Rattle.listing.specs.Index.{Leads, place_of}
 use Rattle.listing.specs.RecordIndex.{has_record, is_thread_subject}
 use Rattle.listing.proofs.records.linked_record.Goals as goal
@@ -28,7 +28,7 @@ come c = c.loop-i.invariant c.args.subject (placed (goal.at.At-loop-i c).After-p
 inside : (c : Else-i) → c.loop-i.i < record_count c.args.names.now
 inside c =
     let a = c.args in
-    comes-inside (seeks-record a.names.now a.subject a.number) c.loop-i.i (come (goal.at.Else-i c).At-loop-i) c.if-i.false
+    comes_inside (seeks_record a.names.now a.subject a.number) c.loop-i.i (come (goal.at.Else-i c).At-loop-i) c.if-i.false
 
 few : (c : Else-i) → c.loop-i.i < 16384
 few c = omega (arith, inside c, c.requires.found.few)
@@ -41,14 +41,14 @@ starts c = c.requires.found.starts c.loop-i.i (inside c)
 within : (c : Else-i)
     → let a = c.args in
     get_or a.records.now c.loop-i.i 0 < length a.names.now
-within c = rw (starts c) (inside-count c.args.names.now c.loop-i.i (inside c))
+within c = rw (starts c) (inside_count c.args.names.now c.loop-i.i (inside c))
 
 leads : (c : Else-i)
     → let a = c.args in
     Leads (has_record a.names.now) (record_count a.names.now) (place_of (is_thread_subject a.subject) a.number) (suc c.loop-i.i) (get_or a.records.now (16384 + c.loop-i.i) 0)
 leads c =
     let a = c.args in
-    leads-on (seeks-record a.names.now a.subject a.number) c.requires.linked c.loop-i.i (come (goal.at.Else-i c).At-loop-i) (inside c)
+    leads_on (seeks_record a.names.now a.subject a.number) c.requires.linked c.loop-i.i (come (goal.at.Else-i c).At-loop-i) (inside c)
 
 pub bounds-records-place : goal.bounds-records-place
 bounds-records-place c = omega (arith, c.place_of-place.ensures.1, c.requires.found.size)
@@ -59,7 +59,7 @@ overflow_cast-i c =
 
 pub loop-i-init : goal.loop-i-init
 loop-i-init c subject is =
-    rw is (comes-first (seeks-record c.args.names.now subject c.args.number) c.requires.linked (rw is at c.place_of-place.ensures.1))
+    rw is (comes_first (seeks_record c.args.names.now subject c.args.number) c.requires.linked (rw is at c.place_of-place.ensures.1))
 
 pub offset_bounds-records-i : goal.offset_bounds-records-i
 offset_bounds-records-i c = omega (arith, few c)
@@ -91,15 +91,15 @@ loop-i-smaller c = omega (arith, (leads (goal.at.loop-i-smaller c).Else-i).on, i
 
 pub loop-i-preserved : goal.loop-i-preserved
 loop-i-preserved c subject is =
-    comes-next (seeks-record c.args.names.now subject c.args.number) c.requires.linked c.loop-i.i (c.loop-i.invariant subject is) (inside (goal.at.loop-i-preserved c).Else-i)
+    comes_next (seeks_record c.args.names.now subject c.args.number) c.requires.linked c.loop-i.i (c.loop-i.invariant subject is) (inside (goal.at.loop-i-preserved c).Else-i)
     (λ same. c.if-word-number.false (rw (starts (goal.at.loop-i-preserved c).Else-i) at c.word.ensures ∙ same))
 
 pub returns-then-i : goal.returns-then-i
 returns-then-i c =
     let a = c.args in
-    inr (c.if-i.true, comes-past (seeks-record a.names.now a.subject a.number) c.loop-i.i (come (goal.at.returns-then-i c).At-loop-i) (omega (arith, c.requires.found.few, c.if-i.true)))
+    inr (c.if-i.true, comes_past (seeks_record a.names.now a.subject a.number) c.loop-i.i (come (goal.at.returns-then-i c).At-loop-i) (omega (arith, c.requires.found.few, c.if-i.true)))
 
 pub returns-then-word-number : goal.returns-then-word-number
 returns-then-word-number c =
     let a = c.args in
-    inl (comes-hit (seeks-record a.names.now a.subject a.number) c.loop-i.i (come (goal.at.returns-then-word-number c).At-loop-i) (inside (goal.at.returns-then-word-number c).Else-i) (sym (rw (starts (goal.at.returns-then-word-number c).Else-i) at c.word.ensures) ∙ c.if-word-number.true), inside (goal.at.returns-then-word-number c).Else-i)
+    inl (comes_hit (seeks_record a.names.now a.subject a.number) c.loop-i.i (come (goal.at.returns-then-word-number c).At-loop-i) (inside (goal.at.returns-then-word-number c).Else-i) (sym (rw (starts (goal.at.returns-then-word-number c).Else-i) at c.word.ensures) ∙ c.if-word-number.true), inside (goal.at.returns-then-word-number c).Else-i)

@@ -3,14 +3,14 @@ use Prim.Native.Nat.{◌<◌}
 use mathlib.Core.Path.{sym, ◌∙◌}
 use native.Mathlib.Omega.{arith}
 use Rattle.naming.specs.Records.{record_count}
-use Rattle.listing.proofs.RecordIndex.{record-inside, record-named, record-nameless}
+use Rattle.listing.proofs.RecordIndex.{record_inside, record_named, record_nameless}
 use Rattle.listing.proofs.records.record_name.Goals as goal
 use Rattle.listing.proofs.records.record_name.Goals.{Then-i}
 
 -- the record that was found
 inside : (c : Then-i) → c.linked_record-i.result < record_count c.args.names.now
 inside c =
-    record-inside c.args.names.now c.args.subject c.args.number c.linked_record-i.result c.linked_record-i.ensures c.if-i.true
+    record_inside c.args.names.now c.args.subject c.args.number c.linked_record-i.result c.linked_record-i.ensures c.if-i.true
 
 few : (c : Then-i) → c.linked_record-i.result < 16384
 few c = omega (arith, inside c, c.requires.found.few)
@@ -28,10 +28,10 @@ pub returns-then-i : goal.returns-then-i
 returns-then-i c =
     let found = c.linked_record-i in
     let a = c.args in
-    rw (c.requires.found.starts found.result (inside (goal.at.returns-then-i c).Then-i)) at c.name_at.ensures ∙ sym (record-named a.names.now a.subject a.number found.result found.ensures c.if-i.true)
+    rw (c.requires.found.starts found.result (inside (goal.at.returns-then-i c).Then-i)) at c.name_at.ensures ∙ sym (record_named a.names.now a.subject a.number found.result found.ensures c.if-i.true)
 
 pub returns : goal.returns
 returns c =
     let found = c.linked_record-i in
     let a = c.args in
-    sym (record-nameless a.names.now a.subject a.number found.result found.ensures c.requires.found.few c.if-i.false)
+    sym (record_nameless a.names.now a.subject a.number found.result found.ensures c.requires.found.few c.if-i.false)

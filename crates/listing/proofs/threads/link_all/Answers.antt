@@ -2,12 +2,12 @@
 use Prim.Native.Nat.{suc, ◌-◌}
 use mathlib.Core.Path.{◌≡◌}
 use native.Mathlib.Omega.{arith}
-use Rattle.listing.proofs.ThreadIndex.{threads-start}
+use Rattle.listing.proofs.ThreadIndex.{threads_start}
 use Rattle.listing.proofs.threads.link_all.Goals as goal
 
 pub loop-i-init : goal.loop-i-init
 loop-i-init c =
-    rw (c.geometry_of-i.ensures, c.requires.1) (omega arith, threads-start c.args.dump.now c.args.header c.requires.0)
+    rw (c.geometry_of-i.ensures, c.requires.1) (omega arith, threads_start c.args.dump.now c.args.header c.requires.0)
 
 pub link-requires : goal.link-requires
 link-requires c =

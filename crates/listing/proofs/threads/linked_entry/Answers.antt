@@ -8,8 +8,8 @@ use lib.ListN.{get_or}
 use Rattle.trace.specs.Layout.{entry_count}
 use Rattle.trace.specs.Registry.{is_wanted}
 use Rattle.trace.specs.declared.Wanted.TheVariants.{Thread}
-use Rattle.listing.proofs.Follows.{Reached, comes-first, comes-hit, comes-inside, comes-next, comes-past, leads-on}
-use Rattle.listing.proofs.ThreadIndex.{seeks-thread}
+use Rattle.listing.proofs.Follows.{Reached, comes_first, comes_hit, comes_inside, comes_next, comes_past, leads_on}
+use Rattle.listing.proofs.ThreadIndex.{seeks_thread}
 use Rattle.listing.specs.Index.{Leads, place_of}
 use Rattle.listing.specs.ThreadIndex.{has_thread, is_gone_kind}
 use Rattle.listing.proofs.threads.linked_entry.Goals as goal
@@ -29,7 +29,7 @@ come c = c.loop-i.invariant c.args.kind (placed (goal.at.At-loop-i c).After-plac
 inside : (c : Else-i) → c.loop-i.i < entry_count c.args.header
 inside c =
     let a = c.args in
-    comes-inside (seeks-thread a.dump.now a.header a.kind a.pointer) c.loop-i.i (come (goal.at.Else-i c).At-loop-i) c.if-i.false
+    comes_inside (seeks_thread a.dump.now a.header a.kind a.pointer) c.loop-i.i (come (goal.at.Else-i c).At-loop-i) c.if-i.false
 
 room : (c : Else-i)
     → let a = c.args in
@@ -42,7 +42,7 @@ leads : (c : Else-i)
     Leads (has_thread a.dump.now a.header) (entry_count a.header) (place_of (is_gone_kind a.kind) a.pointer) (suc c.loop-i.i) (get_or a.links.now c.loop-i.i 0)
 leads c =
     let a = c.args in
-    leads-on (seeks-thread a.dump.now a.header a.kind a.pointer) c.requires.linked c.loop-i.i (come (goal.at.Else-i c).At-loop-i) (inside c)
+    leads_on (seeks_thread a.dump.now a.header a.kind a.pointer) c.requires.linked c.loop-i.i (come (goal.at.Else-i c).At-loop-i) (inside c)
 
 pub overflow_cast-i : goal.overflow_cast-i
 overflow_cast-i c =
@@ -51,7 +51,7 @@ overflow_cast-i c =
 pub loop-i-init : goal.loop-i-init
 loop-i-init c kind is =
     let a = c.args in
-    rw is (comes-first (seeks-thread a.dump.now a.header kind a.pointer) c.requires.linked (rw is at c.place_of-place.ensures.1))
+    rw is (comes_first (seeks_thread a.dump.now a.header kind a.pointer) c.requires.linked (rw is at c.place_of-place.ensures.1))
 
 pub overflow_mul-i : goal.overflow_mul-i
 overflow_mul-i c = omega (arith, room c)
@@ -80,15 +80,15 @@ loop-i-smaller c = omega (arith, (leads (goal.at.loop-i-smaller c).Else-i).on, i
 pub loop-i-preserved : goal.loop-i-preserved
 loop-i-preserved c kind is =
     let a = c.args in
-    comes-next (seeks-thread a.dump.now a.header kind a.pointer) c.requires.linked c.loop-i.i (c.loop-i.invariant kind is) (inside (goal.at.loop-i-preserved c).Else-i)
+    comes_next (seeks_thread a.dump.now a.header kind a.pointer) c.requires.linked c.loop-i.i (c.loop-i.invariant kind is) (inside (goal.at.loop-i-preserved c).Else-i)
     (λ same. c.if-word-pointer.false (c.word.ensures ∙ same))
 
 pub returns-then-i : goal.returns-then-i
 returns-then-i c =
     let a = c.args in
-    inr (c.if-i.true, comes-past (seeks-thread a.dump.now a.header a.kind a.pointer) c.loop-i.i (come (goal.at.returns-then-i c).At-loop-i) (omega (arith, c.requires.few, c.if-i.true)))
+    inr (c.if-i.true, comes_past (seeks_thread a.dump.now a.header a.kind a.pointer) c.loop-i.i (come (goal.at.returns-then-i c).At-loop-i) (omega (arith, c.requires.few, c.if-i.true)))
 
 pub returns-then-word-pointer : goal.returns-then-word-pointer
 returns-then-word-pointer c =
     let a = c.args in
-    inl (comes-hit (seeks-thread a.dump.now a.header a.kind a.pointer) c.loop-i.i (come (goal.at.returns-then-word-pointer c).At-loop-i) (inside (goal.at.returns-then-word-pointer c).Else-i) (sym c.word.ensures ∙ c.if-word-pointer.true), inside (goal.at.returns-then-word-pointer c).Else-i)
+    inl (comes_hit (seeks_thread a.dump.now a.header a.kind a.pointer) c.loop-i.i (come (goal.at.returns-then-word-pointer c).At-loop-i) (inside (goal.at.returns-then-word-pointer c).Else-i) (sym c.word.ensures ∙ c.if-word-pointer.true), inside (goal.at.returns-then-word-pointer c).Else-i)

@@ -5,8 +5,8 @@ use native.Mathlib.Omega.{arith}
 use lib.ListN.{drop, length, take, length-drop, length-take}
 use lib.Seq.{length-take-le, take_all}
 use Rattle.pieces.specs.Pieces.{fed, pushed}
-use Rattle.pieces.proofs.Fed.{fed-split}
-use Rattle.pieces.proofs.States.{header-whole}
+use Rattle.pieces.proofs.Fed.{fed_split}
+use Rattle.pieces.proofs.States.{header_whole}
 use Rattle.pieces.proofs.Pieces.feed.Goals as goal
 
 pub slice_bounds-feed_header-end : goal.slice_bounds-feed_header-end
@@ -25,7 +25,7 @@ feed_body-requires c =
     let taken = rw c.above.ensures at c.least-of_header.ensures in
     λ (some : 1 ≤ length (take (length piece - n) (drop n piece))).
     let left : n < length piece = omega (arith, some, length-take (length piece - n) (drop n piece), length-drop n piece) in
-    rw c.feed_header-headed.ensures (header-whole start.self piece n taken left)
+    rw c.feed_header-headed.ensures (header_whole start.self piece n taken left)
 
 pub returns : goal.returns
 returns c =
@@ -33,4 +33,4 @@ returns c =
     let piece = start.piece.now in
     let n = c.least-of_header.result in
     let rest : take (length piece - n) (drop n piece) ≡ drop n piece = take_all (length piece - n) (drop n piece) (rw length-drop (omega arith)) in
-    c.feed_body.ensures ∙ ap₂ fed c.feed_header-headed.ensures rest ∙ fed-split pushed start.self n piece
+    c.feed_body.ensures ∙ ap₂ fed c.feed_header-headed.ensures rest ∙ fed_split pushed start.self n piece

@@ -3,13 +3,13 @@ use mathlib.Core.Path.{◌∙◌, ap, sym}
 use native.Mathlib.Omega.{arith}
 use lib.Seq.{sets}
 use Rattle.pieces.specs.Pieces.{pushed}
-use Rattle.pieces.proofs.Fed.{fed-none}
-use Rattle.pieces.proofs.Filled.{all-bytes}
-use Rattle.pieces.proofs.States.{fed-header}
+use Rattle.pieces.proofs.Fed.{fed_none}
+use Rattle.pieces.proofs.Filled.{all_bytes}
+use Rattle.pieces.proofs.States.{fed_header}
 use Rattle.pieces.proofs.Pieces.feed_header.Goals as goal
 
 pub returns-then-bytes-eq0 : goal.returns-then-bytes-eq0
-returns-then-bytes-eq0 c = sym (fed-none pushed _ _ (omega arith))
+returns-then-bytes-eq0 c = sym (fed_none pushed _ _ (omega arith))
 
 pub overflow_add-result : goal.overflow_add-result
 overflow_add-result c = omega (arith, c.requires (omega arith))
@@ -18,5 +18,5 @@ pub returns : goal.returns
 returns c =
     let p = c.args.self in
     let bytes = c.args.bytes.now in
-    let held = c.put_padded.ensures ∙ ap (sets p.header p.total) (all-bytes bytes) in
-    rw (c.begin.ensures, held) (sym (fed-header p bytes (omega arith) (c.requires (omega arith))))
+    let held = c.put_padded.ensures ∙ ap (sets p.header p.total) (all_bytes bytes) in
+    rw (c.begin.ensures, held) (sym (fed_header p bytes (omega arith) (c.requires (omega arith))))

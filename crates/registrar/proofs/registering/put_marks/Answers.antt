@@ -5,7 +5,7 @@ use mathlib.Core.Path.{◌∙◌}
 use native.Mathlib.Nat.{add-zero}
 use native.Mathlib.Omega.{arith}
 use lib.ListN.{set}
-use Rattle.words.proofs.Runs.{put-byte-is, stored-fields}
+use Rattle.words.proofs.Runs.{put_byte_is, stored_fields}
 use Rattle.words.specs.Fields.{byte}
 use Rattle.registrar.proofs.registering.put_marks.Goals as goal
 
@@ -18,5 +18,5 @@ returns c =
     let kind = set flag (a.at + 1) a.kind in
     let one = set kind (a.at + 2) a.one in
     rw (c.put_byte-3.ensures, c.put_byte-2.ensures, c.put_byte.ensures, add-zero) at c.put_byte-4.ensures
-    ∙ rw (add-zero, put-byte-is o a.buffer.now a.at 0 (omega arith), put-byte-is o flag (a.at + 1) a.kind (omega (arith, f.kind)), put-byte-is o kind (a.at + 2) a.one (omega (arith, f.one)), put-byte-is o one (a.at + 3) a.two (omega (arith, f.two)))
-    at (stored-fields o (byte 0 ∷ byte a.kind ∷ byte a.one ∷ byte a.two ∷ []) a.buffer.now a.at 0)
+    ∙ rw (add-zero, put_byte_is o a.buffer.now a.at 0 (omega arith), put_byte_is o flag (a.at + 1) a.kind (omega (arith, f.kind)), put_byte_is o kind (a.at + 2) a.one (omega (arith, f.one)), put_byte_is o one (a.at + 3) a.two (omega (arith, f.two)))
+    at (stored_fields o (byte 0 ∷ byte a.kind ∷ byte a.one ∷ byte a.two ∷ []) a.buffer.now a.at 0)
