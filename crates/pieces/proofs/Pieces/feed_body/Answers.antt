@@ -1,0 +1,7 @@
+-- `pieces::Pieces::feed_body` meets its contract.
+use mathlib.Core.Path.{sym}
+use Rattle.pieces.proofs.States.{fed-behind}
+use Rattle.pieces.proofs.Pieces.feed_body.Goals as goal
+
+pub returns : goal.returns
+returns c = rw (c.feed-state.ensures, c.counted.ensures) (sym (fed-behind _ _ c.requires))
