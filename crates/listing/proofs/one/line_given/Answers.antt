@@ -1,0 +1,30 @@
+-- `listing::one::line_given` meets its contract: the rows of a reading and of a name file follow those of the dump.
+use mathlib.Core.Path.{sym, ◌∙◌}
+use lib.ListN.{length}
+use Rattle.naming.specs.Records.{if_given}
+use Rattle.trace.proofs.Checks.{check-events, check-header, check-passed, check-refused}
+use Rattle.trace.specs.Layout.{header_of}
+use Rattle.trace.specs.Table.{dump_rows}
+use Rattle.events.specs.Listing.{line_more}
+use Rattle.listing.proofs.Answers.{gave-more, gave-refused}
+use Rattle.listing.proofs.one.line_given.Goals as goal
+
+pub line_of_sound-requires : goal.line_of_sound-requires
+line_of_sound-requires c =
+    let s = c.args.dump.now in
+    let sound = sym c.check.ensures ∙ c.in-Sound.is in
+    rw (check-header s _ _ sound) (check-passed s _ _ sound, check-events s _ _ sound)
+
+pub returns-in-Refused : goal.returns-in-Refused
+returns-in-Refused c =
+    let a = c.args in
+    let s = a.dump.now in
+    gave-refused (dump_rows s (header_of s)) (line_more (if_given a.given a.names.now) s (header_of s) a.reading a.position (length a.out.now)) _ (check-refused s _ (sym c.check.ensures ∙ c.in-Refused.is))
+
+pub returns-in-Sound : goal.returns-in-Sound
+returns-in-Sound c =
+    let a = c.args in
+    let s = a.dump.now in
+    let sound = sym c.check.ensures ∙ c.in-Sound.is in
+    gave-more (dump_rows s (header_of s)) (line_more (if_given a.given a.names.now) s (header_of s) a.reading a.position (length a.out.now)) (check-passed s _ _ sound)
+    (rw (check-header s _ _ sound) at c.line_of_sound.ensures)
