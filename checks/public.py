@@ -31,21 +31,27 @@ def callable_in(crate):
     found = functions(text)
     for part in sorted(crate.glob("src/**/*.rt")):
         inner = part.read_text()
-        found |= set(re.findall(r'^#\[no_mangle\]\npub extern "C" fn (\w+)', inner, re.M))
+        found |= set(re.findall(r'^#\[unsafe\(no_mangle\)\]\npub extern "C" fn (\w+)', inner, re.M))
         name = part.stem
         if re.search(rf"^pub mod {name};", text, re.M):
             found |= functions(inner)
-        found |= functions(inner) & set(re.findall(rf"^pub use {name}::(\w+)", text, re.M))
+        handed_on = re.findall(rf"^pub use {name}::(\w+|{{[^}}]*}})", text, re.M)
+        found |= functions(inner) & set(re.findall(r"\w+", " ".join(handed_on)))
     return {(crate.name, function) for function in found}
 
 
+def aliases(text, place):
+    """The crates that a theorem names, by the names that it gives them."""
+    return {alias: crate for crate, alias in re.findall(rf"^use Rattle\.(\w+)\.{place}(?:\.\w+)? as ([\w-]+)$", text, re.M)}
+
+
 def named_in(theorem):
-    """The functions whose contracts a theorem speaks of."""
+    """The functions whose contracts a theorem speaks of, each with its own signature, what it asks and what it tells."""
     text = theorem.read_text()
-    crate = dict(re.findall(r"^use Rattle·(\w+)\.proofs(?:\.\w+)? as (\w+)", text, re.M))
-    crate = {alias: name for name, alias in crate.items()}
-    found = re.findall(r"^  pub «?(\w+)»? : Settled(?:As)? (\w+)\.«?(\w+)»?\.ended", text, re.M)
-    return {(crate[alias], function) for field, alias, function in found}
+    signed, proved = aliases(text, r"specs\.contracts"), aliases(text, "proofs")
+    name = r"([\w-]+)\.«?(\w+)»?"
+    found = re.findall(rf"^  pub «?\w+»? : Settled(?:As)? {name}\.ended {name}\.Reads\.Asked {name}\.Reads\.Learnt", text, re.M)
+    return {(signed[a], f) for a, f, b, g, c, h in found if signed[a] == proved[b] == proved[c] and f == g == h}
 
 
 public = set().union(*(callable_in(crate) for crate in CRATES.iterdir()))

@@ -6,15 +6,15 @@ use denote.Ref.{Bor}
 use denote.Triple.Clauses.{AtExit, Ended, Lasts, at_exit}
 use Rattle.trace.specs.Parts.{PartOf}
 use Rattle.contracts.specs.Public.{Library, NameOpen}
-use Rattle.contracts.specs.Settled.{Arguments, Lives, Result, Settled, Telling, unnamed}
+use Rattle.contracts.specs.Settled.{Arguments, Lives, Result, Settled, Telling}
 
 module _ {T : Ended} {value : (κs : Lives T) → Arguments T κs → Result T κs} where
   -- nothing is lent to be written
   module _ (alone : (κs : Lives T) (a : Arguments T κs) (v w : Lasts T κs a) → v ≡ w) where
     gives : {learnt : Telling T} → ((κs : Lives T) (a : Arguments T κs) (x : Result T κs) (e : AtExit T κs) → learnt κs a x e → x ≡ value κs a) → Settled T (λ κs a. Unit {0}) learnt
     gives is = record {
-      asks_nothing = λ κs a. tt;
-      one_answer = λ κs a p q. (is κs a _ _ p.allowed ∙ sym (is κs a _ _ q.allowed), alone κs a p.left q.left);
+      asks-nothing = λ κs a. tt;
+      one-answer = λ κs a p q. (is κs a _ _ p.allowed ∙ sym (is κs a _ _ q.allowed), alone κs a p.left q.left);
     }
 
     pub equation : Settled T (λ κs a. Unit {0}) (λ κs a x e. x ≡ value κs a)
@@ -29,14 +29,14 @@ module _ {T : Ended} {value : (κs : Lives T) → Arguments T κs → Result T �
       → ((κs : Lives T) (a : Arguments T κs) (x : Result T κs) (e : AtExit T κs) → learnt κs a x e → (x ≡ value κs a) × (bytes κs e ≡ last κs a))
       → ((κs : Lives T) (a : Arguments T κs) (v w : Lasts T κs a) → bytes κs (at_exit T κs a v) ≡ bytes κs (at_exit T κs a w) → v ≡ w) → Settled T (λ κs a. Unit {0}) learnt
   leaves is alone = record {
-    asks_nothing = λ κs a. tt;
-    one_answer = λ κs a p q.
+    asks-nothing = λ κs a. tt;
+    one-answer = λ κs a p q.
         let one = is κs a _ _ p.allowed in
         let two = is κs a _ _ q.allowed in
         (one.0 ∙ sym two.0, alone κs a p.left q.left (one.1 ∙ sym two.1));
   }
 
-one-part : {whole x y : Bor (List ℕ)} {at size : ℕ} → PartOf whole x at size → PartOf whole y at size → unnamed x ≡ unnamed y
+one-part : {whole x y : Bor (List ℕ)} {at size : ℕ} → PartOf whole x at size → PartOf whole y at size → x ≡ y
 one-part one two i = record { ref_ptr = ((one.block ∙ sym two.block) i, (one.offset ∙ sym two.offset) i); now = (one.bytes ∙ sym two.bytes) i }
 
 pub library : Library
@@ -120,8 +120,8 @@ library = record {
   finder = record {
     find_name = equation (λ κs a v w. refl);
     find_name_with_names = equation (λ κs a v w. refl);
-    found_part = record { asks_nothing = λ κs a. tt; one_answer = λ κs a p q. (one-part p.allowed q.allowed, refl) };
-    name_part = record { asks_nothing = λ κs a. tt; one_answer = λ κs a p q. (one-part p.allowed q.allowed, refl) };
+    found_part = record { asks-nothing = λ κs a. tt; one-answer = λ κs a p q. (one-part p.allowed q.allowed, refl) };
+    name_part = record { asks-nothing = λ κs a. tt; one-answer = λ κs a p q. (one-part p.allowed q.allowed, refl) };
     is_named = equation (λ κs a v w. refl);
     name_with = equation (λ κs a v w. refl);
     name_of = equation (λ κs a v w. refl);
@@ -177,4 +177,4 @@ library = record {
 }
 
 pub name-open : NameOpen
-name-open whole part at size name is = record { bytes = is.bytes; block = is.block; offset = is.offset }
+name-open whole part at size is = (record { bytes = is.bytes; block = is.block; offset = is.offset }, refl)

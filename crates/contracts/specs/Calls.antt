@@ -4,20 +4,29 @@ use Rattle.std.specs.Prelude.{ℕ, List, ◌≡◌, length}
 use Rattle.std.proofs.Math.Option.{none, some}
 use denote.Triple.Clauses.{Ended, Lasts}
 use Rattle.dump.proofs as dump
+use Rattle.dump.specs.contracts as dump-contracts
 use Rattle.events.specs.Events.{event_of}
 use Rattle.events.specs.Listing.{Gave, line_at, line_rows, listing_rows, listing_text}
 use Rattle.filer.proofs as filer
+use Rattle.filer.specs.contracts as filer-contracts
 use Rattle.finder.proofs as finder
+use Rattle.finder.specs.contracts as finder-contracts
 use Rattle.formatter.proofs as formatter
+use Rattle.formatter.specs.contracts as formatter-contracts
 use Rattle.listing.proofs as listing
+use Rattle.listing.specs.contracts as listing-contracts
 use Rattle.mender.proofs as mender
+use Rattle.mender.specs.contracts as mender-contracts
 use Rattle.mending.specs.Mending.{copy_of, mend_of, mending_rows}
 use Rattle.mending.specs.declared.Mended as mended
 use Rattle.naming.specs.Finding.{find_name_with}
 use Rattle.pieces.proofs.Pieces as pieces
+use Rattle.pieces.specs.contracts.Pieces as pieces-contracts
 use Rattle.pieces.specs.Pieces.{begun, fed, finished}
 use Rattle.recorder.proofs as recorder
+use Rattle.recorder.specs.contracts as recorder-contracts
 use Rattle.registrar.proofs as registrar
+use Rattle.registrar.specs.contracts as registrar-contracts
 use Rattle.rows.specs.Lent.{left_in}
 use Rattle.rows.specs.Rows.{first_broken}
 use Rattle.trace.specs.Check.{check_of}
@@ -25,6 +34,7 @@ use Rattle.trace.specs.Layout.{header_of}
 use Rattle.trace.specs.Names.{find_name, name_found, name_length, name_start}
 use Rattle.trace.specs.Parts.{PartOf, whichever}
 use Rattle.walk.proofs as walk
+use Rattle.walk.specs.contracts as walk-contracts
 use Rattle.writing.specs.Writing.{Change, filing, formatting, left, recording, registering, removing, said}
 use Rattle.writing.specs.declared.Outcome.{Outcome}
 use Rattle.contracts.specs.Settled.{Answer, Arguments, Lives, Result, Telling}
@@ -43,73 +53,73 @@ Mended s old new x = (x ≡ mend_of s (length old)) × (new ≡ left_in old (fir
 
 pub record Calls : Type 0 where
   -- check(dump)
-  pub check : Allows dump.check.ended dump.check.Reads.Learnt (λ κs a x last. x ≡ check_of a.0.now)
+  pub check : Allows dump-contracts.check.ended dump.check.Reads.Learnt (λ κs a x last. x ≡ check_of a.0.now)
   -- find_name(dump, pointer)
-  pub find_name : Allows finder.find_name.ended finder.find_name.Reads.Learnt (λ κs a x last.
+  pub find_name : Allows finder-contracts.find_name.ended finder.find_name.Reads.Learnt (λ κs a x last.
       let s = a.0.now in let pointer = a.1.0 in
       x ≡ find_name s pointer)
   -- find_name_with_names(dump, names, pointer)
-  pub find_name_with_names : Allows finder.find_name_with_names.ended finder.find_name_with_names.Reads.Learnt (λ κs a x last.
+  pub find_name_with_names : Allows finder-contracts.find_name_with_names.ended finder.find_name_with_names.Reads.Learnt (λ κs a x last.
       let s = a.0.now in let names = a.1.0.now in let pointer = a.1.1.0 in
       x ≡ find_name_with (some names) s pointer)
   -- found_part(dump, names, found), name_part(dump, names, name): that part of whichever of the two it lies in and not a copy, empty where there is no name, and in
   -- a refusal
-  pub found_part : Allows finder.found_part.ended finder.found_part.Reads.Learnt (λ κs a x last.
+  pub found_part : Allows finder-contracts.found_part.ended finder.found_part.Reads.Learnt (λ κs a x last.
       let name = name_found a.1.1.0 in
       PartOf (whichever a.0 a.1.0 name) x (name_start name) (name_length name))
-  pub name_part : Allows finder.name_part.ended finder.name_part.Reads.Learnt (λ κs a x last.
+  pub name_part : Allows finder-contracts.name_part.ended finder.name_part.Reads.Learnt (λ κs a x last.
       let name = a.1.1.0 in
       PartOf (whichever a.0 a.1.0 name) x (name_start name) (name_length name))
   -- event(dump, position)
-  pub event : Allows walk.event.ended walk.event.Reads.Learnt (λ κs a x last.
+  pub event : Allows walk-contracts.event.ended walk.event.Reads.Learnt (λ κs a x last.
       let s = a.0.now in let position = a.1.0 in
       x ≡ event_of none s position)
   -- event_with_names(dump, names, position)
-  pub event_with_names : Allows walk.event_with_names.ended walk.event_with_names.Reads.Learnt (λ κs a x last.
+  pub event_with_names : Allows walk-contracts.event_with_names.ended walk.event_with_names.Reads.Learnt (λ κs a x last.
       let s = a.0.now in let names = a.1.0.now in let position = a.1.1.0 in
       x ≡ event_of (some names) s position)
   -- line(dump, reading, position, out)
-  pub line : Allows listing.line.ended listing.line.Reads.Learnt (λ κs a x last.
+  pub line : Allows listing-contracts.line.ended listing.line.Reads.Learnt (λ κs a x last.
       let s = a.0.now in let reading = a.1.0 in let position = a.1.1.0 in let old = a.1.1.1.0.now in let new = last.1.1.1.0 in
       Gave (line_rows none s (header_of s) reading position (length old)) (line_at none s (header_of s) reading position) old new x)
   -- line_with_names(dump, names, reading, position, out)
-  pub line_with_names : Allows listing.line_with_names.ended listing.line_with_names.Reads.Learnt (λ κs a x last.
+  pub line_with_names : Allows listing-contracts.line_with_names.ended listing.line_with_names.Reads.Learnt (λ κs a x last.
       let s = a.0.now in let file = some a.1.0.now in let reading = a.1.1.0 in let position = a.1.1.1.0 in
       let old = a.1.1.1.1.0.now in let new = last.1.1.1.1.0 in
       Gave (line_rows file s (header_of s) reading position (length old)) (line_at file s (header_of s) reading position) old new x)
   -- listing_with_names(dump, names, reading, out)
-  pub listing_with_names : Allows listing.listing_with_names.ended listing.listing_with_names.Reads.Learnt (λ κs a x last.
+  pub listing_with_names : Allows listing-contracts.listing_with_names.ended listing.listing_with_names.Reads.Learnt (λ κs a x last.
       let s = a.0.now in let file = some a.1.0.now in let reading = a.1.1.0 in let old = a.1.1.1.0.now in let new = last.1.1.1.0 in
       Gave (listing_rows file s (header_of s) reading (length old)) (listing_text file s (header_of s) reading) old new x)
   -- listing(dump, reading, out)
-  pub listing : Allows listing.listing.ended listing.listing.Reads.Learnt (λ κs a x last.
+  pub listing : Allows listing-contracts.listing.ended listing.listing.Reads.Learnt (λ κs a x last.
       let s = a.0.now in let reading = a.1.0 in let old = a.1.1.0.now in let new = last.1.1.0 in
       Gave (listing_rows none s (header_of s) reading (length old)) (listing_text none s (header_of s) reading) old new x)
   -- format(buffer, format)
-  pub format : Allows formatter.format.ended formatter.format.Reads.Learnt (λ κs a x last.
+  pub format : Allows formatter-contracts.format.ended formatter.format.Reads.Learnt (λ κs a x last.
       let old = a.0.now in let format = a.1.0 in let new = last.0 in
       Changed (formatting format) old new x)
   -- record(buffer, slot)
-  pub «record» : Allows recorder.«record».ended recorder.«record».Reads.Learnt (λ κs a x last.
+  pub «record» : Allows recorder-contracts.«record».ended recorder.«record».Reads.Learnt (λ κs a x last.
       let old = a.0.now in let slot = a.1.0 in let new = last.0 in
       Changed (recording slot) old new x)
   -- register(buffer, object, name)
-  pub register : Allows registrar.register.ended registrar.register.Reads.Learnt (λ κs a x last.
+  pub register : Allows registrar-contracts.register.ended registrar.register.Reads.Learnt (λ κs a x last.
       let old = a.0.now in let object = a.1.0 in let name = a.1.1.0.now in let new = last.0 in
       Changed (registering object name) old new x)
   -- remove(buffer, pointer)
-  pub remove : Allows registrar.remove.ended registrar.remove.Reads.Learnt (λ κs a x last.
+  pub remove : Allows registrar-contracts.remove.ended registrar.remove.Reads.Learnt (λ κs a x last.
       let old = a.0.now in let pointer = a.1.0 in let new = last.0 in
       Changed (removing pointer) old new x)
   -- write_name(names, offset, subject, number, name)
-  pub write_name : Allows filer.write_name.ended filer.write_name.Reads.Learnt (λ κs a x last.
+  pub write_name : Allows filer-contracts.write_name.ended filer.write_name.Reads.Learnt (λ κs a x last.
       let old = a.0.now in let offset = a.1.0 in let subject = a.1.1.0 in let number = a.1.1.1.0 in let name = a.1.1.1.1.0.now in let new = last.0 in
       Changed (filing subject number name offset) old new x)
   -- mend(dump, copy)
-  pub mend : Allows mender.mend.ended mender.mend.Reads.Learnt (λ κs a x last.
+  pub mend : Allows mender-contracts.mend.ended mender.mend.Reads.Learnt (λ κs a x last.
       let s = a.0.now in let old = a.1.0.now in let new = last.1.0 in
       Mended s old new x)
   -- Pieces::begin(), feed(self, piece), finish(self)
-  pub begin : Allows pieces.begin.ended pieces.begin.Reads.Learnt (λ κs a x last. x ≡ begun)
-  pub feed : Allows pieces.feed.ended pieces.feed.Reads.Learnt (λ κs a x last. x ≡ fed a.0 a.1.0.now)
-  pub finish : Allows pieces.finish.ended pieces.finish.Reads.Learnt (λ κs a x last. x ≡ finished a.0)
+  pub begin : Allows pieces-contracts.begin.ended pieces.begin.Reads.Learnt (λ κs a x last. x ≡ begun)
+  pub feed : Allows pieces-contracts.feed.ended pieces.feed.Reads.Learnt (λ κs a x last. x ≡ fed a.0 a.1.0.now)
+  pub finish : Allows pieces-contracts.finish.ended pieces.finish.Reads.Learnt (λ κs a x last. x ≡ finished a.0)

@@ -10,6 +10,7 @@ use Rattle.events.specs.declared.Listed.TheVariants.{Written}
 use Rattle.events.specs.declared.Reading.{Reading}
 use Rattle.events.specs.declared.Shown.TheVariants.{Given}
 use Rattle.lepsaino_c.proofs as calls
+use Rattle.lepsaino_c.specs.contracts as calls-contracts
 use Rattle.lepsaino_c.specs.Answers.{GaveNumbers, answer_of, check_answer, check_answer_of, event_answer, event_answer_of, format_given, listed_answer, mend_answer, mend_answer_of, name_answer, name_answer_of, order_given, outcome_answer, subject_given}
 use Rattle.lepsaino_c.specs.declared.answers.Answer.{Answer}
 use Rattle.lepsaino_c.specs.declared.answers.EventAnswer.{EventAnswer}
@@ -46,25 +47,25 @@ use Rattle.contracts.specs.Calls.{Allows, Changed, Mended}
 use Rattle.contracts.specs.Settled.{Settled}
 
 pub record Interface : Type 0 where
-  pub lepsaino_check : Settled calls.lepsaino_check.ended calls.lepsaino_check.Reads.Asked calls.lepsaino_check.Reads.Learnt
-  pub lepsaino_begin : Settled calls.lepsaino_begin.ended calls.lepsaino_begin.Reads.Asked calls.lepsaino_begin.Reads.Learnt
-  pub lepsaino_feed : Settled calls.lepsaino_feed.ended calls.lepsaino_feed.Reads.Asked calls.lepsaino_feed.Reads.Learnt
-  pub lepsaino_finish : Settled calls.lepsaino_finish.ended calls.lepsaino_finish.Reads.Asked calls.lepsaino_finish.Reads.Learnt
-  pub lepsaino_event : Settled calls.lepsaino_event.ended calls.lepsaino_event.Reads.Asked calls.lepsaino_event.Reads.Learnt
-  pub lepsaino_event_with_names : Settled calls.lepsaino_event_with_names.ended calls.lepsaino_event_with_names.Reads.Asked calls.lepsaino_event_with_names.Reads.Learnt
-  pub lepsaino_find_name : Settled calls.lepsaino_find_name.ended calls.lepsaino_find_name.Reads.Asked calls.lepsaino_find_name.Reads.Learnt
-  pub lepsaino_find_name_with_names : Settled calls.lepsaino_find_name_with_names.ended calls.lepsaino_find_name_with_names.Reads.Asked calls.lepsaino_find_name_with_names.Reads.Learnt
-  pub lepsaino_line : Settled calls.lepsaino_line.ended calls.lepsaino_line.Reads.Asked calls.lepsaino_line.Reads.Learnt
-  pub lepsaino_line_with_names : Settled calls.lepsaino_line_with_names.ended calls.lepsaino_line_with_names.Reads.Asked calls.lepsaino_line_with_names.Reads.Learnt
-  pub lepsaino_listing : Settled calls.lepsaino_listing.ended calls.lepsaino_listing.Reads.Asked calls.lepsaino_listing.Reads.Learnt
-  pub lepsaino_listing_with_names : Settled calls.lepsaino_listing_with_names.ended calls.lepsaino_listing_with_names.Reads.Asked calls.lepsaino_listing_with_names.Reads.Learnt
-  pub lepsaino_number : Settled calls.lepsaino_number.ended calls.lepsaino_number.Reads.Asked calls.lepsaino_number.Reads.Learnt
-  pub lepsaino_format : Settled calls.lepsaino_format.ended calls.lepsaino_format.Reads.Asked calls.lepsaino_format.Reads.Learnt
-  pub lepsaino_record : Settled calls.lepsaino_record.ended calls.lepsaino_record.Reads.Asked calls.lepsaino_record.Reads.Learnt
-  pub lepsaino_register : Settled calls.lepsaino_register.ended calls.lepsaino_register.Reads.Asked calls.lepsaino_register.Reads.Learnt
-  pub lepsaino_remove : Settled calls.lepsaino_remove.ended calls.lepsaino_remove.Reads.Asked calls.lepsaino_remove.Reads.Learnt
-  pub lepsaino_write_name : Settled calls.lepsaino_write_name.ended calls.lepsaino_write_name.Reads.Asked calls.lepsaino_write_name.Reads.Learnt
-  pub lepsaino_mend : Settled calls.lepsaino_mend.ended calls.lepsaino_mend.Reads.Asked calls.lepsaino_mend.Reads.Learnt
+  pub lepsaino_check : Settled calls-contracts.lepsaino_check.ended calls.lepsaino_check.Reads.Asked calls.lepsaino_check.Reads.Learnt
+  pub lepsaino_begin : Settled calls-contracts.lepsaino_begin.ended calls.lepsaino_begin.Reads.Asked calls.lepsaino_begin.Reads.Learnt
+  pub lepsaino_feed : Settled calls-contracts.lepsaino_feed.ended calls.lepsaino_feed.Reads.Asked calls.lepsaino_feed.Reads.Learnt
+  pub lepsaino_finish : Settled calls-contracts.lepsaino_finish.ended calls.lepsaino_finish.Reads.Asked calls.lepsaino_finish.Reads.Learnt
+  pub lepsaino_event : Settled calls-contracts.lepsaino_event.ended calls.lepsaino_event.Reads.Asked calls.lepsaino_event.Reads.Learnt
+  pub lepsaino_event_with_names : Settled calls-contracts.lepsaino_event_with_names.ended calls.lepsaino_event_with_names.Reads.Asked calls.lepsaino_event_with_names.Reads.Learnt
+  pub lepsaino_find_name : Settled calls-contracts.lepsaino_find_name.ended calls.lepsaino_find_name.Reads.Asked calls.lepsaino_find_name.Reads.Learnt
+  pub lepsaino_find_name_with_names : Settled calls-contracts.lepsaino_find_name_with_names.ended calls.lepsaino_find_name_with_names.Reads.Asked calls.lepsaino_find_name_with_names.Reads.Learnt
+  pub lepsaino_line : Settled calls-contracts.lepsaino_line.ended calls.lepsaino_line.Reads.Asked calls.lepsaino_line.Reads.Learnt
+  pub lepsaino_line_with_names : Settled calls-contracts.lepsaino_line_with_names.ended calls.lepsaino_line_with_names.Reads.Asked calls.lepsaino_line_with_names.Reads.Learnt
+  pub lepsaino_listing : Settled calls-contracts.lepsaino_listing.ended calls.lepsaino_listing.Reads.Asked calls.lepsaino_listing.Reads.Learnt
+  pub lepsaino_listing_with_names : Settled calls-contracts.lepsaino_listing_with_names.ended calls.lepsaino_listing_with_names.Reads.Asked calls.lepsaino_listing_with_names.Reads.Learnt
+  pub lepsaino_number : Settled calls-contracts.lepsaino_number.ended calls.lepsaino_number.Reads.Asked calls.lepsaino_number.Reads.Learnt
+  pub lepsaino_format : Settled calls-contracts.lepsaino_format.ended calls.lepsaino_format.Reads.Asked calls.lepsaino_format.Reads.Learnt
+  pub lepsaino_record : Settled calls-contracts.lepsaino_record.ended calls.lepsaino_record.Reads.Asked calls.lepsaino_record.Reads.Learnt
+  pub lepsaino_register : Settled calls-contracts.lepsaino_register.ended calls.lepsaino_register.Reads.Asked calls.lepsaino_register.Reads.Learnt
+  pub lepsaino_remove : Settled calls-contracts.lepsaino_remove.ended calls.lepsaino_remove.Reads.Asked calls.lepsaino_remove.Reads.Learnt
+  pub lepsaino_write_name : Settled calls-contracts.lepsaino_write_name.ended calls.lepsaino_write_name.Reads.Asked calls.lepsaino_write_name.Reads.Learnt
+  pub lepsaino_mend : Settled calls-contracts.lepsaino_mend.ended calls.lepsaino_mend.Reads.Asked calls.lepsaino_mend.Reads.Learnt
 
 -- the struct of an answer that a call of the library may give
 abbrev pub InNumbers : {A B : Type 0} → (A → B) → (A → Type 0) → B → Type 0
@@ -72,44 +73,44 @@ InNumbers struct gives x = (answer : _) × (x ≡ struct answer) × gives answer
 
 -- whatever the contract of a call for C allows is what the library's own call gives, in numbers, and what that call leaves
 pub record InterfaceGives : Type 0 where
-  pub check : Allows calls.lepsaino_check.ended calls.lepsaino_check.Reads.Learnt (λ κs a x last. x ≡ check_answer (check_of a.0.now))
-  pub begin : Allows calls.lepsaino_begin.ended calls.lepsaino_begin.Reads.Learnt (λ κs a x last. x ≡ begun)
-  pub feed : Allows calls.lepsaino_feed.ended calls.lepsaino_feed.Reads.Learnt (λ κs a x last. x ≡ fed a.0 a.1.0.now)
-  pub finish : Allows calls.lepsaino_finish.ended calls.lepsaino_finish.Reads.Learnt (λ κs a x last. x ≡ check_answer (finished a.0))
-  pub event : Allows calls.lepsaino_event.ended calls.lepsaino_event.Reads.Learnt (λ κs a x last. x ≡ event_answer (event_of none a.0.now a.1.0))
-  pub event_with_names : Allows calls.lepsaino_event_with_names.ended calls.lepsaino_event_with_names.Reads.Learnt (λ κs a x last.
+  pub check : Allows calls-contracts.lepsaino_check.ended calls.lepsaino_check.Reads.Learnt (λ κs a x last. x ≡ check_answer (check_of a.0.now))
+  pub begin : Allows calls-contracts.lepsaino_begin.ended calls.lepsaino_begin.Reads.Learnt (λ κs a x last. x ≡ begun)
+  pub feed : Allows calls-contracts.lepsaino_feed.ended calls.lepsaino_feed.Reads.Learnt (λ κs a x last. x ≡ fed a.0 a.1.0.now)
+  pub finish : Allows calls-contracts.lepsaino_finish.ended calls.lepsaino_finish.Reads.Learnt (λ κs a x last. x ≡ check_answer (finished a.0))
+  pub event : Allows calls-contracts.lepsaino_event.ended calls.lepsaino_event.Reads.Learnt (λ κs a x last. x ≡ event_answer (event_of none a.0.now a.1.0))
+  pub event_with_names : Allows calls-contracts.lepsaino_event_with_names.ended calls.lepsaino_event_with_names.Reads.Learnt (λ κs a x last.
       x ≡ event_answer (event_of (some a.1.0.now) a.0.now a.1.1.0))
-  pub find_name : Allows calls.lepsaino_find_name.ended calls.lepsaino_find_name.Reads.Learnt (λ κs a x last. x ≡ name_answer (find_name a.0.now a.1.0))
-  pub find_name_with_names : Allows calls.lepsaino_find_name_with_names.ended calls.lepsaino_find_name_with_names.Reads.Learnt (λ κs a x last.
+  pub find_name : Allows calls-contracts.lepsaino_find_name.ended calls.lepsaino_find_name.Reads.Learnt (λ κs a x last. x ≡ name_answer (find_name a.0.now a.1.0))
+  pub find_name_with_names : Allows calls-contracts.lepsaino_find_name_with_names.ended calls.lepsaino_find_name_with_names.Reads.Learnt (λ κs a x last.
       x ≡ name_answer (find_name_with (some a.1.0.now) a.0.now a.1.1.0))
-  pub line : Allows calls.lepsaino_line.ended calls.lepsaino_line.Reads.Learnt (λ κs a x last.
+  pub line : Allows calls-contracts.lepsaino_line.ended calls.lepsaino_line.Reads.Learnt (λ κs a x last.
       let s = a.0.now in let reading = a.1.0 in let position = a.1.1.0 in let old = a.1.1.1.0.now in let new = last.1.1.1.0 in
       InNumbers listed_answer (Gave (line_rows none s (header_of s) reading position (length old)) (line_at none s (header_of s) reading position) old new) x)
-  pub line_with_names : Allows calls.lepsaino_line_with_names.ended calls.lepsaino_line_with_names.Reads.Learnt (λ κs a x last.
+  pub line_with_names : Allows calls-contracts.lepsaino_line_with_names.ended calls.lepsaino_line_with_names.Reads.Learnt (λ κs a x last.
       let s = a.0.now in let reading = a.1.0 in let position = a.1.1.0 in let file = some a.1.1.1.0.now in
       let old = a.1.1.1.1.0.now in let new = last.1.1.1.1.0 in
       InNumbers listed_answer (Gave (line_rows file s (header_of s) reading position (length old)) (line_at file s (header_of s) reading position) old new) x)
-  pub listing : Allows calls.lepsaino_listing.ended calls.lepsaino_listing.Reads.Learnt (λ κs a x last.
+  pub listing : Allows calls-contracts.lepsaino_listing.ended calls.lepsaino_listing.Reads.Learnt (λ κs a x last.
       let s = a.0.now in let reading = a.1.0 in let old = a.1.1.0.now in let new = last.1.1.0 in
       InNumbers listed_answer (Gave (listing_rows none s (header_of s) reading (length old)) (listing_text none s (header_of s) reading) old new) x)
-  pub listing_with_names : Allows calls.lepsaino_listing_with_names.ended calls.lepsaino_listing_with_names.Reads.Learnt (λ κs a x last.
+  pub listing_with_names : Allows calls-contracts.lepsaino_listing_with_names.ended calls.lepsaino_listing_with_names.Reads.Learnt (λ κs a x last.
       let s = a.0.now in let reading = a.1.0 in let file = some a.1.1.0.now in let old = a.1.1.1.0.now in let new = last.1.1.1.0 in
       InNumbers listed_answer (Gave (listing_rows file s (header_of s) reading (length old)) (listing_text file s (header_of s) reading) old new) x)
-  pub number : Allows calls.lepsaino_number.ended calls.lepsaino_number.Reads.Learnt (λ κs a x last.
+  pub number : Allows calls-contracts.lepsaino_number.ended calls.lepsaino_number.Reads.Learnt (λ κs a x last.
       let old = a.0.now in
       Put (printed (number a.1.0) old) old last.0 x)
-  pub format : Allows calls.lepsaino_format.ended calls.lepsaino_format.Reads.Learnt (λ κs a x last.
+  pub format : Allows calls-contracts.lepsaino_format.ended calls.lepsaino_format.Reads.Learnt (λ κs a x last.
       InNumbers outcome_answer (Changed (formatting (format_given a.1.0)) a.0.now last.0) x)
-  pub «record» : Allows calls.lepsaino_record.ended calls.lepsaino_record.Reads.Learnt (λ κs a x last.
+  pub «record» : Allows calls-contracts.lepsaino_record.ended calls.lepsaino_record.Reads.Learnt (λ κs a x last.
       InNumbers outcome_answer (Changed (recording a.1.0) a.0.now last.0) x)
-  pub register : Allows calls.lepsaino_register.ended calls.lepsaino_register.Reads.Learnt (λ κs a x last.
+  pub register : Allows calls-contracts.lepsaino_register.ended calls.lepsaino_register.Reads.Learnt (λ κs a x last.
       InNumbers outcome_answer (Changed (registering a.1.0 a.1.1.0.now) a.0.now last.0) x)
-  pub remove : Allows calls.lepsaino_remove.ended calls.lepsaino_remove.Reads.Learnt (λ κs a x last.
+  pub remove : Allows calls-contracts.lepsaino_remove.ended calls.lepsaino_remove.Reads.Learnt (λ κs a x last.
       InNumbers outcome_answer (Changed (removing a.1.0) a.0.now last.0) x)
-  pub write_name : Allows calls.lepsaino_write_name.ended calls.lepsaino_write_name.Reads.Learnt (λ κs a x last.
+  pub write_name : Allows calls-contracts.lepsaino_write_name.ended calls.lepsaino_write_name.Reads.Learnt (λ κs a x last.
       let offset = a.1.0 in let subject = subject_given a.1.1.0 in let number = a.1.1.1.0 in let name = a.1.1.1.1.0.now in
       InNumbers outcome_answer (Changed (filing subject number name offset) a.0.now last.0) x)
-  pub mend : Allows calls.lepsaino_mend.ended calls.lepsaino_mend.Reads.Learnt (λ κs a x last.
+  pub mend : Allows calls-contracts.lepsaino_mend.ended calls.lepsaino_mend.Reads.Learnt (λ κs a x last.
       InNumbers mend_answer (Mended a.0.now a.1.0.now last.1.0) x)
 
 -- a struct that is made of what was told: a refusal exactly by the first broken row of the call's order
@@ -122,51 +123,51 @@ TellsAndKeeps struct rows old new x = (told : Told) × (x ≡ struct told) × Re
 
 -- whatever answer the contract of a call for C allows
 pub record InterfaceRefuses : Type 0 where
-  pub check : Allows calls.lepsaino_check.ended calls.lepsaino_check.Reads.Learnt (λ κs a x last.
+  pub check : Allows calls-contracts.lepsaino_check.ended calls.lepsaino_check.Reads.Learnt (λ κs a x last.
       let s = a.0.now in
       Tells check_answer_of (dump_rows s (header_of s)) x)
-  pub finish : Allows calls.lepsaino_finish.ended calls.lepsaino_finish.Reads.Learnt (λ κs a x last. Tells check_answer_of (finish_rows a.0) x)
-  pub event : Allows calls.lepsaino_event.ended calls.lepsaino_event.Reads.Learnt (λ κs a x last.
+  pub finish : Allows calls-contracts.lepsaino_finish.ended calls.lepsaino_finish.Reads.Learnt (λ κs a x last. Tells check_answer_of (finish_rows a.0) x)
+  pub event : Allows calls-contracts.lepsaino_event.ended calls.lepsaino_event.Reads.Learnt (λ κs a x last.
       let s = a.0.now in let position = a.1.0 in
       Tells event_answer_of (event_rows none s (header_of s) position) x)
-  pub event_with_names : Allows calls.lepsaino_event_with_names.ended calls.lepsaino_event_with_names.Reads.Learnt (λ κs a x last.
+  pub event_with_names : Allows calls-contracts.lepsaino_event_with_names.ended calls.lepsaino_event_with_names.Reads.Learnt (λ κs a x last.
       let s = a.0.now in let file = some a.1.0.now in let position = a.1.1.0 in
       Tells event_answer_of (event_rows file s (header_of s) position) x)
-  pub find_name : Allows calls.lepsaino_find_name.ended calls.lepsaino_find_name.Reads.Learnt (λ κs a x last.
+  pub find_name : Allows calls-contracts.lepsaino_find_name.ended calls.lepsaino_find_name.Reads.Learnt (λ κs a x last.
       let s = a.0.now in
       Tells name_answer_of (registry_rows s (header_of s)) x)
-  pub find_name_with_names : Allows calls.lepsaino_find_name_with_names.ended calls.lepsaino_find_name_with_names.Reads.Learnt (λ κs a x last.
+  pub find_name_with_names : Allows calls-contracts.lepsaino_find_name_with_names.ended calls.lepsaino_find_name_with_names.Reads.Learnt (λ κs a x last.
       let s = a.0.now in let file = some a.1.0.now in
       Tells name_answer_of (finding_rows file s (header_of s)) x)
-  pub line : Allows calls.lepsaino_line.ended calls.lepsaino_line.Reads.Learnt (λ κs a x last.
+  pub line : Allows calls-contracts.lepsaino_line.ended calls.lepsaino_line.Reads.Learnt (λ κs a x last.
       let s = a.0.now in let reading = a.1.0 in let position = a.1.1.0 in let old = a.1.1.1.0.now in let new = last.1.1.1.0 in
       TellsAndKeeps answer_of (line_rows none s (header_of s) reading position (length old)) old new x)
-  pub line_with_names : Allows calls.lepsaino_line_with_names.ended calls.lepsaino_line_with_names.Reads.Learnt (λ κs a x last.
+  pub line_with_names : Allows calls-contracts.lepsaino_line_with_names.ended calls.lepsaino_line_with_names.Reads.Learnt (λ κs a x last.
       let s = a.0.now in let reading = a.1.0 in let position = a.1.1.0 in let file = some a.1.1.1.0.now in
       let old = a.1.1.1.1.0.now in let new = last.1.1.1.1.0 in
       TellsAndKeeps answer_of (line_rows file s (header_of s) reading position (length old)) old new x)
-  pub listing : Allows calls.lepsaino_listing.ended calls.lepsaino_listing.Reads.Learnt (λ κs a x last.
+  pub listing : Allows calls-contracts.lepsaino_listing.ended calls.lepsaino_listing.Reads.Learnt (λ κs a x last.
       let s = a.0.now in let reading = a.1.0 in let old = a.1.1.0.now in let new = last.1.1.0 in
       TellsAndKeeps answer_of (listing_rows none s (header_of s) reading (length old)) old new x)
-  pub listing_with_names : Allows calls.lepsaino_listing_with_names.ended calls.lepsaino_listing_with_names.Reads.Learnt (λ κs a x last.
+  pub listing_with_names : Allows calls-contracts.lepsaino_listing_with_names.ended calls.lepsaino_listing_with_names.Reads.Learnt (λ κs a x last.
       let s = a.0.now in let reading = a.1.0 in let file = some a.1.1.0.now in let old = a.1.1.1.0.now in let new = last.1.1.1.0 in
       TellsAndKeeps answer_of (listing_rows file s (header_of s) reading (length old)) old new x)
-  pub format : Allows calls.lepsaino_format.ended calls.lepsaino_format.Reads.Learnt (λ κs a x last.
+  pub format : Allows calls-contracts.lepsaino_format.ended calls.lepsaino_format.Reads.Learnt (λ κs a x last.
       let old = a.0.now in let new = last.0 in
       TellsAndKeeps answer_of (formatting (format_given a.1.0) old).rows old new x)
-  pub «record» : Allows calls.lepsaino_record.ended calls.lepsaino_record.Reads.Learnt (λ κs a x last.
+  pub «record» : Allows calls-contracts.lepsaino_record.ended calls.lepsaino_record.Reads.Learnt (λ κs a x last.
       let old = a.0.now in let slot = a.1.0 in let new = last.0 in
       TellsAndKeeps answer_of (recording slot old).rows old new x)
-  pub register : Allows calls.lepsaino_register.ended calls.lepsaino_register.Reads.Learnt (λ κs a x last.
+  pub register : Allows calls-contracts.lepsaino_register.ended calls.lepsaino_register.Reads.Learnt (λ κs a x last.
       let old = a.0.now in let object = a.1.0 in let name = a.1.1.0.now in let new = last.0 in
       TellsAndKeeps answer_of (registering object name old).rows old new x)
-  pub remove : Allows calls.lepsaino_remove.ended calls.lepsaino_remove.Reads.Learnt (λ κs a x last.
+  pub remove : Allows calls-contracts.lepsaino_remove.ended calls.lepsaino_remove.Reads.Learnt (λ κs a x last.
       let old = a.0.now in let pointer = a.1.0 in let new = last.0 in
       TellsAndKeeps answer_of (removing pointer old).rows old new x)
-  pub write_name : Allows calls.lepsaino_write_name.ended calls.lepsaino_write_name.Reads.Learnt (λ κs a x last.
+  pub write_name : Allows calls-contracts.lepsaino_write_name.ended calls.lepsaino_write_name.Reads.Learnt (λ κs a x last.
       let old = a.0.now in let offset = a.1.0 in let subject = subject_given a.1.1.0 in let number = a.1.1.1.0 in let name = a.1.1.1.1.0.now in let new = last.0 in
       TellsAndKeeps answer_of (filing subject number name offset old).rows old new x)
-  pub mend : Allows calls.lepsaino_mend.ended calls.lepsaino_mend.Reads.Learnt (λ κs a x last.
+  pub mend : Allows calls-contracts.lepsaino_mend.ended calls.lepsaino_mend.Reads.Learnt (λ κs a x last.
       let s = a.0.now in let old = a.1.0.now in let new = last.1.0 in
       TellsAndKeeps mend_answer_of (mending_rows s (header_of s) (length old)) old new x)
 

@@ -31,13 +31,13 @@ module _ (T : Ended) where
 
   -- any two are equal, in so far as the result is seen
   pub record SettledAs (asked : Asking) (learnt : Telling) {Seen : Lives → Type 0} (seen : (κs : Lives) → Result κs → Seen κs) : Type 0 where
-    pub asks_nothing : (κs : Lives) (a : Arguments κs) → asked κs a
-    pub one_answer : (κs : Lives) (a : Arguments κs) (p q : Answer learnt κs a) → (seen κs p.result ≡ seen κs q.result) × (p.left ≡ q.left)
+    pub asks-nothing : (κs : Lives) (a : Arguments κs) → asked κs a
+    pub one-answer : (κs : Lives) (a : Arguments κs) (p q : Answer learnt κs a) → (seen κs p.result ≡ seen κs q.result) × (p.left ≡ q.left)
 
   -- the whole result is seen
   abbrev pub Settled : Asking → Telling → Type 0
   Settled asked learnt = SettledAs asked learnt (λ κs x. x)
 
--- a part that is handed back, but for its ghost name: its block and offset, and its bytes
+-- of a part that is handed back its block and offset, and its bytes
 abbrev pub unnamed : Bor (List ℕ) → Bor (List ℕ)
 unnamed x = record { ref_ptr = x.ref_ptr; now = x.now }

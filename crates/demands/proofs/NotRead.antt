@@ -30,7 +30,6 @@ use Rattle.trace.specs.Layout.{current_slot, entry_at, entry_count, entry_size, 
 use Rattle.trace.specs.Names.{found_by, name_bytes, name_found, name_of, thread_entry}
 use Rattle.trace.specs.Slots.{event_count, slot_in}
 use Rattle.trace.specs.Table.{dump_rows, header_rows, row16, row25}
-use Rattle.trace.specs.declared.Found.TheVariants as found
 use Rattle.trace.specs.declared.Header.{Header}
 use Rattle.trace.specs.declared.Wanted.{Wanted}
 use Rattle.trace.specs.declared.Wanted.TheVariants.{Free, InUse, Thread}

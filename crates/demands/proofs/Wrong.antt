@@ -1,6 +1,6 @@
 -- Each wrong statement falls to a case of document 01, or to one that computes.
 use Prim.Native.Nat.{ℕ, zero, suc, min}
-use mathlib.Core.Bool.{true, false, true≢false}
+use mathlib.Core.Bool.{true, true≢false}
 use mathlib.Core.List.{List, [], ◌∷◌, ◌++◌}
 use mathlib.Core.Logic.{inl}
 use mathlib.Core.Option.{Option, some}

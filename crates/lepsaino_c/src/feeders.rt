@@ -7,24 +7,21 @@ use crate::answers::{CheckAnswer, of_checked};
 use pieces::Pieces;
 
 // The state before any byte.
-#[unsafe(no_mangle)]
-pub extern "C" fn lepsaino_begin() -> Pieces
+pub fn lepsaino_begin() -> Pieces
     ensures { result ≡ begun }
 {
     Pieces::begin()
 }
 
 // The state after one piece more.
-#[unsafe(no_mangle)]
-pub extern "C" fn lepsaino_feed(state: Pieces, piece: &[u8]) -> Pieces
+pub fn lepsaino_feed(state: Pieces, piece: &[u8]) -> Pieces
     ensures { result ≡ fed state piece.now }
 {
     state.feed(piece)
 }
 
 // What the whole check gives on all bytes that were fed.
-#[unsafe(no_mangle)]
-pub extern "C" fn lepsaino_finish(state: Pieces) -> CheckAnswer
+pub fn lepsaino_finish(state: Pieces) -> CheckAnswer
     ensures { result ≡ check_answer (finished state) }
 {
     of_checked(state.finish())

@@ -11,32 +11,21 @@ use crate::answers::{Answer, EventAnswer, NameAnswer, of_found, of_listed, of_sh
 use events::Reading;
 
 // One event by position.
-#[unsafe(no_mangle)]
-pub extern "C" fn lepsaino_event_with_names(
-    dump: &[u8],
-    names: &[u8],
-    position: usize,
-) -> EventAnswer
+pub fn lepsaino_event_with_names(dump: &[u8], names: &[u8], position: usize) -> EventAnswer
     ensures { result ≡ event_answer (event_of (some names.now) dump.now position) }
 {
     of_shown(walk::event_with_names(dump, names, position))
 }
 
 // The name of the thread with a pointer.
-#[unsafe(no_mangle)]
-pub extern "C" fn lepsaino_find_name_with_names(
-    dump: &[u8],
-    names: &[u8],
-    pointer: u32,
-) -> NameAnswer
+pub fn lepsaino_find_name_with_names(dump: &[u8], names: &[u8], pointer: u32) -> NameAnswer
     ensures { result ≡ name_answer (find_name_with (some names.now) dump.now pointer) }
 {
     of_found(finder::find_name_with_names(dump, names, pointer))
 }
 
 // The line of one event.
-#[unsafe(no_mangle)]
-pub extern "C" fn lepsaino_line_with_names<'a>(
+pub fn lepsaino_line_with_names<'a>(
     dump: &'a [u8],
     reading: Reading,
     position: usize,
@@ -49,8 +38,7 @@ pub extern "C" fn lepsaino_line_with_names<'a>(
 }
 
 // The whole listing.
-#[unsafe(no_mangle)]
-pub extern "C" fn lepsaino_listing_with_names<'a>(
+pub fn lepsaino_listing_with_names<'a>(
     dump: &'a [u8],
     reading: Reading,
     names: &'a [u8],

@@ -16,53 +16,42 @@ use crate::answers::{
 use events::Reading;
 
 // Checks a dump.
-#[unsafe(no_mangle)]
-pub extern "C" fn lepsaino_check(dump: &[u8]) -> CheckAnswer
+pub fn lepsaino_check(dump: &[u8]) -> CheckAnswer
     ensures { result ≡ check_answer (check_of dump.now) }
 {
     of_checked(dump::check(dump))
 }
 
 // One event by position.
-#[unsafe(no_mangle)]
-pub extern "C" fn lepsaino_event(dump: &[u8], position: usize) -> EventAnswer
+pub fn lepsaino_event(dump: &[u8], position: usize) -> EventAnswer
     ensures { result ≡ event_answer (event_of none dump.now position) }
 {
     of_shown(walk::event(dump, position))
 }
 
 // The name of the thread with a pointer.
-#[unsafe(no_mangle)]
-pub extern "C" fn lepsaino_find_name(dump: &[u8], pointer: u32) -> NameAnswer
+pub fn lepsaino_find_name(dump: &[u8], pointer: u32) -> NameAnswer
     ensures { result ≡ name_answer (find_name dump.now pointer) }
 {
     of_found(finder::find_name(dump, pointer))
 }
 
 // The line of one event.
-#[unsafe(no_mangle)]
-pub extern "C" fn lepsaino_line(
-    dump: &[u8],
-    reading: Reading,
-    position: usize,
-    out: &mut [u8],
-) -> Answer
+pub fn lepsaino_line(dump: &[u8], reading: Reading, position: usize, out: &mut [u8]) -> Answer
     ensures { GaveNumbers (line_rows none dump.now (header_of dump.now) reading position (length out.old)) (line_at none dump.now (header_of dump.now) reading position) out.old out.new result }
 {
     of_listed(listing::line(dump, reading, position, out))
 }
 
 // The whole listing.
-#[unsafe(no_mangle)]
-pub extern "C" fn lepsaino_listing(dump: &[u8], reading: Reading, out: &mut [u8]) -> Answer
+pub fn lepsaino_listing(dump: &[u8], reading: Reading, out: &mut [u8]) -> Answer
     ensures { GaveNumbers (listing_rows none dump.now (header_of dump.now) reading (length out.old)) (listing_text none dump.now (header_of dump.now) reading) out.old out.new result }
 {
     of_listed(listing::listing(dump, reading, out))
 }
 
 // The text of a number.
-#[unsafe(no_mangle)]
-pub extern "C" fn lepsaino_number(out: &mut [u8], number: u64) -> usize
+pub fn lepsaino_number(out: &mut [u8], number: u64) -> usize
     ensures { Put (printed (number_text number) out.old) out.old out.new result }
 {
     numbers::put_number(out, number)

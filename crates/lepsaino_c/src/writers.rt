@@ -46,40 +46,35 @@ fn format_given(numbers: FormatNumbers) -> Format
 }
 
 // Formats a buffer.
-#[unsafe(no_mangle)]
-pub extern "C" fn lepsaino_format(buffer: &mut [u8], numbers: FormatNumbers) -> Answer
+pub fn lepsaino_format(buffer: &mut [u8], numbers: FormatNumbers) -> Answer
     ensures { (result ≡ outcome_answer (said (formatting (format_given numbers) buffer.old))) × (buffer.new ≡ left (formatting (format_given numbers) buffer.old) buffer.old) }
 {
     of_outcome(formatter::format(buffer, format_given(numbers)))
 }
 
 // Records an event.
-#[unsafe(no_mangle)]
-pub extern "C" fn lepsaino_record(buffer: &mut [u8], slot: Slot) -> Answer
+pub fn lepsaino_record(buffer: &mut [u8], slot: Slot) -> Answer
     ensures { (result ≡ outcome_answer (said (recording slot buffer.old))) × (buffer.new ≡ left (recording slot buffer.old) buffer.old) }
 {
     of_outcome(recorder::record(buffer, slot))
 }
 
 // Registers an object under a name.
-#[unsafe(no_mangle)]
-pub extern "C" fn lepsaino_register(buffer: &mut [u8], object: Object, name: &[u8]) -> Answer
+pub fn lepsaino_register(buffer: &mut [u8], object: Object, name: &[u8]) -> Answer
     ensures { (result ≡ outcome_answer (said (registering object name.now buffer.old))) × (buffer.new ≡ left (registering object name.now buffer.old) buffer.old) }
 {
     of_outcome(registrar::register(buffer, object, name))
 }
 
 // Removes the object with a pointer.
-#[unsafe(no_mangle)]
-pub extern "C" fn lepsaino_remove(buffer: &mut [u8], pointer: u32) -> Answer
+pub fn lepsaino_remove(buffer: &mut [u8], pointer: u32) -> Answer
     ensures { (result ≡ outcome_answer (said (removing pointer buffer.old))) × (buffer.new ≡ left (removing pointer buffer.old) buffer.old) }
 {
     of_outcome(registrar::remove(buffer, pointer))
 }
 
 // Mends a dump into a second buffer.
-#[unsafe(no_mangle)]
-pub extern "C" fn lepsaino_mend(dump: &[u8], copy: &mut [u8]) -> MendAnswer
+pub fn lepsaino_mend(dump: &[u8], copy: &mut [u8]) -> MendAnswer
     ensures { (result ≡ mend_answer (mend_of dump.now (length copy.old))) × (copy.new ≡ left_in copy.old (first_broken (mending_rows dump.now (header_of dump.now) (length copy.old))) (copy_of dump.now (header_of dump.now))) }
 {
     of_mended(mender::mend(dump, copy))
@@ -95,8 +90,7 @@ fn subject_given(thread: u32) -> Subject
 }
 
 // Writes one record of a name file: an event's where `thread` is 0, otherwise a thread's.
-#[unsafe(no_mangle)]
-pub extern "C" fn lepsaino_write_name(
+pub fn lepsaino_write_name(
     names: &mut [u8],
     offset: usize,
     thread: u32,

@@ -1,0 +1,62 @@
+// The calls that read a dump with a name file. The reading comes before the names: so it is never split between registers and the stack.
+ghost use Rattle.std.proofs.Math.Option.{some};
+ghost use Rattle.std.specs.Prelude.{◌≡◌, length};
+ghost use Rattle.events.specs.Events.{event_of};
+ghost use Rattle.events.specs.Listing.{line_at, line_rows, listing_rows, listing_text};
+ghost use Rattle.naming.specs.Finding.{find_name_with};
+ghost use Rattle.trace.specs.Layout.{header_of};
+ghost use Rattle.lepsaino_c.specs.Answers.{GaveNumbers, event_answer, name_answer};
+
+use events::Reading;
+use lepsaino_c::{Answer, EventAnswer, NameAnswer};
+
+// One event by position.
+#[unsafe(no_mangle)]
+pub extern "C" fn lepsaino_event_with_names(
+    dump: &[u8],
+    names: &[u8],
+    position: usize,
+) -> EventAnswer
+    ensures { result ≡ event_answer (event_of (some names.now) dump.now position) }
+{
+    lepsaino_c::lepsaino_event_with_names(dump, names, position)
+}
+
+// The name of the thread with a pointer.
+#[unsafe(no_mangle)]
+pub extern "C" fn lepsaino_find_name_with_names(
+    dump: &[u8],
+    names: &[u8],
+    pointer: u32,
+) -> NameAnswer
+    ensures { result ≡ name_answer (find_name_with (some names.now) dump.now pointer) }
+{
+    lepsaino_c::lepsaino_find_name_with_names(dump, names, pointer)
+}
+
+// The line of one event.
+#[unsafe(no_mangle)]
+pub extern "C" fn lepsaino_line_with_names<'a>(
+    dump: &'a [u8],
+    reading: Reading,
+    position: usize,
+    names: &'a [u8],
+    out: &mut [u8],
+) -> Answer
+    ensures { GaveNumbers (line_rows (some names.now) dump.now (header_of dump.now) reading position (length out.old)) (line_at (some names.now) dump.now (header_of dump.now) reading position) out.old out.new result }
+{
+    lepsaino_c::lepsaino_line_with_names(dump, reading, position, names, out)
+}
+
+// The whole listing.
+#[unsafe(no_mangle)]
+pub extern "C" fn lepsaino_listing_with_names<'a>(
+    dump: &'a [u8],
+    reading: Reading,
+    names: &'a [u8],
+    out: &mut [u8],
+) -> Answer
+    ensures { GaveNumbers (listing_rows (some names.now) dump.now (header_of dump.now) reading (length out.old)) (listing_text (some names.now) dump.now (header_of dump.now) reading) out.old out.new result }
+{
+    lepsaino_c::lepsaino_listing_with_names(dump, reading, names, out)
+}

@@ -1,0 +1,67 @@
+// The calls that read a dump.
+ghost use Rattle.std.proofs.Math.Option.{none};
+ghost use Rattle.std.specs.Prelude.{◌≡◌, length};
+ghost use Rattle.events.specs.Events.{event_of};
+ghost use Rattle.events.specs.Listing.{line_at, line_rows, listing_rows, listing_text};
+ghost use Rattle.text.specs.Numbers.{number as number_text};
+ghost use Rattle.text.specs.Output.{Put, printed};
+ghost use Rattle.trace.specs.Check.{check_of};
+ghost use Rattle.trace.specs.Layout.{header_of};
+ghost use Rattle.trace.specs.Names.{find_name};
+ghost use Rattle.lepsaino_c.specs.Answers.{GaveNumbers, check_answer, event_answer, name_answer};
+
+use events::Reading;
+use lepsaino_c::{Answer, CheckAnswer, EventAnswer, NameAnswer};
+
+// Checks a dump.
+#[unsafe(no_mangle)]
+pub extern "C" fn lepsaino_check(dump: &[u8]) -> CheckAnswer
+    ensures { result ≡ check_answer (check_of dump.now) }
+{
+    lepsaino_c::lepsaino_check(dump)
+}
+
+// One event by position.
+#[unsafe(no_mangle)]
+pub extern "C" fn lepsaino_event(dump: &[u8], position: usize) -> EventAnswer
+    ensures { result ≡ event_answer (event_of none dump.now position) }
+{
+    lepsaino_c::lepsaino_event(dump, position)
+}
+
+// The name of the thread with a pointer.
+#[unsafe(no_mangle)]
+pub extern "C" fn lepsaino_find_name(dump: &[u8], pointer: u32) -> NameAnswer
+    ensures { result ≡ name_answer (find_name dump.now pointer) }
+{
+    lepsaino_c::lepsaino_find_name(dump, pointer)
+}
+
+// The line of one event.
+#[unsafe(no_mangle)]
+pub extern "C" fn lepsaino_line(
+    dump: &[u8],
+    reading: Reading,
+    position: usize,
+    out: &mut [u8],
+) -> Answer
+    ensures { GaveNumbers (line_rows none dump.now (header_of dump.now) reading position (length out.old)) (line_at none dump.now (header_of dump.now) reading position) out.old out.new result }
+{
+    lepsaino_c::lepsaino_line(dump, reading, position, out)
+}
+
+// The whole listing.
+#[unsafe(no_mangle)]
+pub extern "C" fn lepsaino_listing(dump: &[u8], reading: Reading, out: &mut [u8]) -> Answer
+    ensures { GaveNumbers (listing_rows none dump.now (header_of dump.now) reading (length out.old)) (listing_text none dump.now (header_of dump.now) reading) out.old out.new result }
+{
+    lepsaino_c::lepsaino_listing(dump, reading, out)
+}
+
+// The text of a number.
+#[unsafe(no_mangle)]
+pub extern "C" fn lepsaino_number(out: &mut [u8], number: u64) -> usize
+    ensures { Put (printed (number_text number) out.old) out.old out.new result }
+{
+    lepsaino_c::lepsaino_number(out, number)
+}
