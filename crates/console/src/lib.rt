@@ -2,7 +2,8 @@
 // it fails, and how many bytes changed.
 #![tactic(auto)]
 
-ghost use Rattle.std.specs.Prelude.{◌≡◌, cond, ◌+◌, ◌*◌, ◌≤◌, length, MatchResult, IsUtf8};
+ghost use Rattle.std.specs.Prelude.{◌≡◌, cond, ◌+◌, ◌*◌, ◌≤◌, length, take, MatchResult, IsUtf8};
+ghost use Rattle.std.specs.Io.KnownBytes.{Consumes};
 ghost use Rattle.words.specs.Words.{word_at};
 ghost use Rattle.words.specs.declared.Order.TheVariants.{Little};
 ghost use Rattle.console.specs.Counts.{IsPrefixLen};
@@ -98,23 +99,37 @@ pub fn open_file(rt: &HostRuntime, path: &[u8]) -> io::Result<File> {
     File::open(rt, path_of(path)?)
 }
 
+// What one read gives, and how many bytes; none where it fails.
+fn read_once<R: Read>(file: &mut R, bytes: &mut [u8]) -> usize
+    ensures within { IsPrefixLen result bytes.new }
+    ensures came { Consumes (R.remaining file.old) (R.remaining file.new) (take result bytes.new) }
+{
+    match file.read(bytes) {
+        Ok(n) => n,
+        Err(_) => 0,
+    }
+}
+
 // Reads until there is no more room, the file ends or a read fails, and says how many bytes came.
 fn read_full<R: Read>(file: &mut R, bytes: &mut [u8]) -> usize
-    ensures { IsPrefixLen result bytes.new }
+    ensures within { IsPrefixLen result bytes.new }
+    ensures came { Consumes (R.remaining file.old) (R.remaining file.new) (take result bytes.new) }
 {
     let mut done = 0;
     while done < bytes.len() {
-        match file.read(&mut bytes[done..]) {
-            Ok(more) if more > 0 => done += more,
-            _ => break,
+        let more = read_once(file, &mut bytes[done..]);
+        if more == 0 {
+            return done;
         }
+        done += more;
     }
     done
 }
 
-// Reads so many bytes, if there is room for them, and says how many came.
+// Reads so many bytes, if there is room for them, and says how many came. Those are the file's next, where it is known what it has.
 pub fn read_some<R: Read>(file: &mut R, bytes: &mut [u8], size: usize) -> usize
-    ensures { IsPrefixLen result bytes.new }
+    ensures within { IsPrefixLen result bytes.new }
+    ensures came { Consumes (R.remaining file.old) (R.remaining file.new) (take result bytes.new) }
 {
     if bytes.len() < size {
         return 0;
