@@ -1,6 +1,6 @@
 // Answers the cases of the file `cases`, which an independent implementation made together with the answers.
 #![tactic(auto)]
 
-fn main() {
-    replies::answer_file(b"cases");
+fn main(rt: HostRuntime) {
+    replies::answer_file(&rt, b"cases");
 }

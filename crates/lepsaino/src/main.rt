@@ -14,85 +14,86 @@ use console::print_front;
 use events::{Listed, Reading};
 use mends::mend_by_arguments;
 use named::{list_named, output_space, path_at};
-use shared::{Took, print_refused, read_file, say};
+use shared::{Took, argument, argument_count, print_refused, read_file, say};
 
-fn print_listing(dump: &[u8], reading: Reading) {
+fn print_listing(rt: &HostRuntime, dump: &[u8], reading: Reading) {
     let mut space = output_space();
     let out: &mut [u8] = &mut space;
     match listing::listing(dump, reading, out) {
-        Listed::Refused(refusal) => print_refused(refusal),
-        Listed::Written(n) => print_front(out, n),
+        Listed::Refused(refusal) => print_refused(rt, refusal),
+        Listed::Written(n) => print_front(rt, out, n),
     }
 }
 
-fn list_file(path: &[u8], reading: Reading) {
+fn list_file(rt: &HostRuntime, path: &[u8], reading: Reading) {
     let mut space = [0u8; 65537];
-    if let Took::Bytes(n) = read_file(path, &mut space) {
-        print_listing(&space[..n], reading);
+    if let Took::Bytes(n) = read_file(rt, path, &mut space) {
+        print_listing(rt, &space[..n], reading);
     }
 }
 
-fn list_with(reading: Reading) {
-    let mut space = io::buffer();
-    let n = path_at(1, b"FILE", &mut space);
+fn list_with(rt: &HostRuntime, reading: Reading) {
+    let mut space = [0u8; 4096];
+    let n = path_at(rt, 1, b"FILE", &mut space);
     if n == 0 {
         return;
     }
-    if os::arg_count() == 6 {
-        list_named(&space[..n], reading);
+    if argument_count(rt) == 6 {
+        list_named(rt, &space[..n], reading);
     } else {
-        list_file(&space[..n], reading);
+        list_file(rt, &space[..n], reading);
     }
 }
 
 // The number in an argument, of at most so much.
-fn argument_at(i: usize, most: u64) -> Argument
+fn argument_at(rt: &HostRuntime, i: usize, most: u64) -> Argument
     ensures { AtMost result most }
 {
-    let mut space = io::buffer();
-    let n = os::arg(i, &mut space);
+    let mut space = [0u8; 4096];
+    let n = argument(rt, i, &mut space);
     number_in(&space[..n], most)
 }
 
-fn list_by_arguments() {
-    let count = os::arg_count();
+fn list_by_arguments(rt: &HostRuntime) {
+    let count = argument_count(rt);
     if count != 5 && count != 6 {
         say(
+            rt,
             b"usage: lepsaino FILE RATE UNIT SERIAL [NAMES], or lepsaino mend FILE COPY; lepsaino --help says more\n",
         );
         return;
     }
-    let rate = argument_at(2, 4294967295);
+    let rate = argument_at(rt, 2, 4294967295);
     let Argument::Number(rate) = rate else {
-        say(b"RATE is no decimal number from 1 to 4294967295\n");
+        say(rt, b"RATE is no decimal number from 1 to 4294967295\n");
         return;
     };
-    let unit = argument_at(3, 4294967295);
+    let unit = argument_at(rt, 3, 4294967295);
     let Argument::Number(unit) = unit else {
-        say(b"UNIT is no decimal number from 0 to 16777215\n");
+        say(rt, b"UNIT is no decimal number from 0 to 16777215\n");
         return;
     };
-    let serial = argument_at(4, 18446744073709551615);
+    let serial = argument_at(rt, 4, 18446744073709551615);
     let Argument::Number(serial) = serial else {
-        say(b"SERIAL is no decimal number from 0 to 1099511627776\n");
+        say(rt, b"SERIAL is no decimal number from 0 to 1099511627776\n");
         return;
     };
     let rate = rate as u32;
     let unit = unit as u32;
-    list_with(Reading { rate, unit, serial });
+    list_with(rt, Reading { rate, unit, serial });
 }
 
 // Whether the first argument asks for mending.
-fn is_to_mend() -> bool {
-    let mut space = io::buffer();
-    let n = os::arg(1, &mut space);
-    check::same(&space[..n], b"mend")
+fn is_to_mend(rt: &HostRuntime) -> bool {
+    let mut space = [0u8; 4096];
+    let n = argument(rt, 1, &mut space);
+    &space[..n] == b"mend".as_slice()
 }
 
-fn main() {
-    if is_to_mend() {
-        mend_by_arguments();
+fn main(rt: HostRuntime) {
+    if is_to_mend(&rt) {
+        mend_by_arguments(&rt);
     } else {
-        list_by_arguments();
+        list_by_arguments(&rt);
     }
 }

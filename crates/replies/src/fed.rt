@@ -23,8 +23,8 @@ fn fed_in(dump: &[u8], first: usize, step: usize) -> Pieces
 }
 
 // The first piece's length, and by how much the others are longer than 1.
-pub(crate) fn print_fed(dump: &[u8], arguments: &[u8]) {
+pub(crate) fn print_fed(rt: &HostRuntime, dump: &[u8], arguments: &[u8]) {
     let first = least(word_at(arguments, 0) as usize, dump.len());
     let state = fed_in(dump, first, word_at(arguments, 4) as usize);
-    print_verdict(state.finish());
+    print_verdict(rt, state.finish());
 }

@@ -1,25 +1,24 @@
 // A line or the listing, into room that is part of more space, so that a byte changed past the text shows.
 use crate::arguments::{reading_in, room_in};
-use crate::print_end;
+use crate::{print_end, put_number};
 use console::{count_changed, number_at, print_front, print_refusal, print_space};
 use events::Listed;
-use libc::STDOUT_FILENO;
 
 // A refusal or the text's length; how many bytes changed past it; and the text.
-fn print_listed(space: &[u8], listed: Listed) {
+fn print_listed(rt: &HostRuntime, space: &[u8], listed: Listed) {
     let length = match listed {
         Listed::Refused(refusal) => {
-            print_refusal(refusal);
+            print_refusal(rt, refusal);
             0
         }
         Listed::Written(n) => {
-            io::print_decimal(STDOUT_FILENO, n as u64);
+            put_number(rt, n as u64);
             n
         }
     };
-    print_space(count_changed(space, length) as u64);
-    print_end();
-    print_front(space, length);
+    print_space(rt, count_changed(space, length) as u64);
+    print_end(rt);
+    print_front(rt, space, length);
 }
 
 fn put_plain(dump: &[u8], arguments: &[u8], whole: bool, out: &mut [u8]) -> Listed {
@@ -68,6 +67,7 @@ fn put_text<'a>(
 
 // Of the space, which has dots only, the text's room and 64 bytes more are looked at.
 fn print_within<'a>(
+    rt: &HostRuntime,
     dump: &'a [u8],
     given: bool,
     names: &'a [u8],
@@ -79,7 +79,7 @@ fn print_within<'a>(
     let end = room + 64;
     if end <= space.len() {
         let listed = put_text(dump, given, names, arguments, whole, &mut space[..room]);
-        print_listed(&space[..end], listed);
+        print_listed(rt, &space[..end], listed);
     }
 }
 
@@ -88,13 +88,21 @@ fn long_space() -> [u8; 1600000] {
     [b'.'; 1600000]
 }
 
-fn print_long<'a>(dump: &'a [u8], given: bool, names: &'a [u8], arguments: &[u8], whole: bool) {
+fn print_long<'a>(
+    rt: &HostRuntime,
+    dump: &'a [u8],
+    given: bool,
+    names: &'a [u8],
+    arguments: &[u8],
+    whole: bool,
+) {
     let mut space = long_space();
-    print_within(dump, given, names, arguments, whole, &mut space);
+    print_within(rt, dump, given, names, arguments, whole, &mut space);
 }
 
 // Few calls need much space, and filling it takes the most time of a run.
 pub(crate) fn print_text<'a>(
+    rt: &HostRuntime,
     dump: &'a [u8],
     given: bool,
     names: &'a [u8],
@@ -102,9 +110,9 @@ pub(crate) fn print_text<'a>(
     whole: bool,
 ) {
     if room_in(arguments) > 4000 {
-        print_long(dump, given, names, arguments, whole);
+        print_long(rt, dump, given, names, arguments, whole);
         return;
     }
     let mut space = [b'.'; 4096];
-    print_within(dump, given, names, arguments, whole, &mut space);
+    print_within(rt, dump, given, names, arguments, whole, &mut space);
 }

@@ -1,9 +1,8 @@
 // What a writing call does and gives, and the digest of the buffer, or of the name file, after it.
 use crate::arguments::{format_in, front_in, name_in, object_in, offset_in, subject_in};
 use crate::buffers::print_digest;
-use crate::filled;
+use crate::{filled, put};
 use console::{print_refusal, print_space, word_at};
-use libc::STDOUT_FILENO;
 use words::Order;
 use writing::Outcome;
 
@@ -36,13 +35,13 @@ pub(crate) fn changed(buffer: &mut [u8], names: &mut [u8], kind: u8, arguments: 
     }
 }
 
-pub(crate) fn print_outcome(buffer: &[u8], outcome: Outcome) {
+pub(crate) fn print_outcome(rt: &HostRuntime, buffer: &[u8], outcome: Outcome) {
     match outcome {
-        Outcome::Refused(refusal) => print_refusal(refusal),
+        Outcome::Refused(refusal) => print_refusal(rt, refusal),
         Outcome::Done(number) => {
-            io::write_all(STDOUT_FILENO, b"done");
-            print_space(number as u64);
+            put(rt, b"done");
+            print_space(rt, number as u64);
         }
     }
-    print_digest(buffer);
+    print_digest(rt, buffer);
 }

@@ -7,18 +7,20 @@
 
 ghost use Rattle.std.specs.Prelude.{◌≤◌, ◌<◌, ◌^◌};
 
-use console::{count_changed, number_at, print_front, print_space, word_at};
-use libc::STDOUT_FILENO;
+use console::{
+    count_changed, fail, number_at, open_file, print_front, print_space, read_some, word_at,
+};
+use std::fs::File;
 use text::{Context, Info, Line, Title};
 use words::Order;
 
-fn print_number(x: u64) {
+fn print_number(rt: &HostRuntime, x: u64) {
     let mut out = [0u8; 22];
     let n = numbers::put_number(&mut out, x);
-    print_front(&out, n);
-    print_space(numbers::number_length(x) as u64);
-    print_space(doubles::through_double(x));
-    io::write_all(STDOUT_FILENO, b"\n");
+    print_front(rt, &out, n);
+    print_space(rt, numbers::number_length(x) as u64);
+    print_space(rt, doubles::through_double(x));
+    let _ = rt.write_all(b"\n");
 }
 
 fn one_less(n: usize) -> usize {
@@ -45,25 +47,42 @@ fn put_within(
 }
 
 // The line's length, what one byte less of room takes and changes, and what just enough takes and changes past it.
-fn print_close(line: Line, title: Title, called: &[u8], named: bool, bytes: &[u8]) {
+fn print_close(
+    rt: &HostRuntime,
+    line: Line,
+    title: Title,
+    called: &[u8],
+    named: bool,
+    bytes: &[u8],
+) {
     let mut out = [b'.'; 4096];
     let size = lines::line_length(line, title, called, named, bytes);
     let short = put_within(&mut out, one_less(size), line, title, called, named, bytes);
-    io::print_decimal(STDOUT_FILENO, size as u64);
-    print_space(short as u64);
-    print_space(count_changed(&out, 0) as u64);
-    print_space(put_within(&mut out, size, line, title, called, named, bytes) as u64);
-    print_space(count_changed(&out, size) as u64);
+    let _ = rt.print(size);
+    print_space(rt, short as u64);
+    print_space(rt, count_changed(&out, 0) as u64);
+    print_space(
+        rt,
+        put_within(&mut out, size, line, title, called, named, bytes) as u64,
+    );
+    print_space(rt, count_changed(&out, size) as u64);
 }
 
 // The line, and how many bytes changed past it.
-fn print_line(line: Line, title: Title, called: &[u8], named: bool, bytes: &[u8]) {
+fn print_line(
+    rt: &HostRuntime,
+    line: Line,
+    title: Title,
+    called: &[u8],
+    named: bool,
+    bytes: &[u8],
+) {
     let mut out = [b'.'; 4096];
     let n = lines::put_line(&mut out, line, title, called, named, bytes);
-    print_front(&out, n);
-    print_close(line, title, called, named, bytes);
-    print_space(count_changed(&out, n) as u64);
-    io::write_all(STDOUT_FILENO, b"\n");
+    print_front(rt, &out, n);
+    print_close(rt, line, title, called, named, bytes);
+    print_space(rt, count_changed(&out, n) as u64);
+    let _ = rt.write_all(b"\n");
 }
 
 fn title_of(number: u8) -> Title {
@@ -108,7 +127,7 @@ fn line_in(case: &[u8], gone: bool) -> Line {
 }
 
 // A line's case at the front of the bytes, and how long it is: the event's name behind the numbers, and then the thread's.
-fn print_line_case(case: &[u8]) -> usize
+fn print_line_case(rt: &HostRuntime, case: &[u8]) -> usize
     ensures { (1 ≤ result) × (result < 2 ^ 18) }
 {
     let title = title_of(words::byte(case, 54, 0));
@@ -119,38 +138,40 @@ fn print_line_case(case: &[u8]) -> usize
     let end = start + words::half(case, middle + 2, Order::Little) as usize;
     if end <= case.len() {
         let line = line_in(case, gone);
-        print_line(line, title, &case[57..middle], named, &case[start..end]);
+        print_line(rt, line, title, &case[57..middle], named, &case[start..end]);
     }
     end
 }
 
 // A case at the front of the bytes, and how long it is.
-fn print_case(case: &[u8]) -> usize
+fn print_case(rt: &HostRuntime, case: &[u8]) -> usize
     ensures { (1 ≤ result) × (result < 2 ^ 18) }
 {
     if words::byte(case, 0, 0) == b'n' {
-        print_number(number_at(case, 1, 5));
+        print_number(rt, number_at(case, 1, 5));
         return 9;
     }
-    print_line_case(case)
+    print_line_case(rt, case)
 }
 
-fn print_cases(cases: &[u8]) {
+fn print_cases(rt: &HostRuntime, cases: &[u8]) {
     let mut at = 0;
     while at < cases.len() {
-        at += print_case(&cases[at..]);
+        at += print_case(rt, &cases[at..]);
     }
 }
 
-fn main() {
-    let path = b"cases";
-    let file = os::open_read(path);
-    if file < 0 {
-        os::fail(path);
-        return;
-    }
+// The cases of an open file, so far as there is room for them.
+fn print_file(rt: &HostRuntime, file: &mut File) {
     let mut space = [0u8; 131072];
-    let n = io::read_full(file, &mut space);
-    print_cases(&space[..n]);
-    libc::close(file);
+    let n = read_some(file, &mut space, 131072);
+    print_cases(rt, &space[..n]);
+}
+
+fn main(rt: HostRuntime) {
+    let path = b"cases";
+    match open_file(&rt, path) {
+        Ok(mut file) => print_file(&rt, &mut file),
+        Err(error) => fail(&rt, path, error),
+    }
 }
