@@ -66,9 +66,9 @@ build() {
     mv "$room/library.bc" "$bitcode"
 }
 
-# Where the bitcode is kept and no source is newer, it is what a build would make.
+# Where the bitcode is kept and no source is newer, it is what a build would make; out/ is what rt makes of sources.
 build_where_changed() {
-    [ -f "$bitcode" ] && [ -z "$(find "$root/crates" "$root/crates.txt" "$rattle" -name out -prune -o -newer "$bitcode" -print -quit)" ] || build
+    [ -f "$bitcode" ] && [ -z "$(find "$root/crates.txt" "$root"/crates/*/* "$rattle" -name out -prune -o -newer "$bitcode" -print -quit)" ] || build
 }
 
 # The bitcode as text: what the compiler was given, with nothing made faster yet.
