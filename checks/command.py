@@ -5,7 +5,6 @@ import ctypes
 import io
 import json
 import os
-import platform
 import re
 import resource
 import shutil
@@ -721,16 +720,17 @@ def keeps_cells(folder):
     check("cells", list(csv.reader(io.StringIO(done.stdout)))[1:] == rows and done.stderr == "", done)
 
 
-# Stand-ins: rt counts its calls and waits for a file before it builds, or fails; the loader runs a program of any kind.
+# A stand-in for rt, called in the program's crate: it counts its calls and waits for a file before it builds, or fails.
 RT = """#!/bin/sh
+cd ../..
 echo call >>calls
 tries=0
 while [ ! -e go ] && [ $tries -lt 400 ]; do sleep 0.05; tries=$((tries + 1)); done
 cat >/dev/null
 [ ! -e bad ] || exit 1
-mkdir -p target/bin && cp program target/bin/lepsaino
+mkdir -p crates/lepsaino/out && cp program crates/lepsaino/out/lepsaino
 """
-LOADER = '#!/bin/sh\nshift 2\nexec "$@"\n'
+BUILT = "crates/lepsaino/out/lepsaino"
 PROGRAM = "#!/bin/sh\nprintf '{}\\n'\n"
 WAITS = b"lepsaino: another use is building the program; this one waits\n"
 
@@ -746,15 +746,13 @@ class StandIn:
 
     def __init__(self, folder):
         self.root = Path(tempfile.mkdtemp(dir=folder))
-        (self.root / "crates").mkdir()
+        (self.root / "crates/lepsaino").mkdir(parents=True)
         (self.root / "include").mkdir()
         for name in ("lepsaino", "crates.txt", "include/lepsaino.h"):
             shutil.copy2(ROOT / name, self.root / name)
         self.put("kit/bin/rt", RT)
-        self.put(f"kit/on/{platform.machine()}/toolchain/lib/ld-linux-x86-64.so.2", LOADER)
         self.put("program", PROGRAM)
         self.env = dict(os.environ, PATH=f"{self.root}/kit/bin:{os.environ['PATH']}")
-        self.env.pop("RATTLE_HOME", None)
 
     def put(self, name, text):
         path = self.root / name
@@ -842,11 +840,11 @@ def program_fails(folder):
     one.go()
     one.run()
     for failing in ("exit 3", "echo no >&2", "kill -SEGV $$"):
-        one.put("target/bin/lepsaino", f"#!/bin/sh\nprintf '{{half'\n{failing}\n")
+        one.put(BUILT, f"#!/bin/sh\nprintf '{{half'\n{failing}\n")
         done = one.run()
         right = (done.stdout, done.returncode, done.stderr.count(b"\n")) == (b"", 2, 1)
         check(f"a program that ends by {failing}", right, done)
-    one.put("target/bin/lepsaino", PROGRAM)
+    one.put(BUILT, PROGRAM)
     one.put("kit/bin/head", "#!/bin/sh\nexit 1\n")
     done = one.run()
     right = (done.stdout, done.returncode, done.stderr.count(b"\n")) == (b"", 2, 1)
@@ -864,7 +862,7 @@ def mend_fails(folder):
     was = here, state(here)
     failures = [(failing, 2, b"") for failing in ("exit 3", "echo no >&2", "kill -SEGV $$", "rm $3; echo {}")]
     for failing, status, out in (*failures, ("echo 1 0", 1, b"1 0\n")):
-        one.put("target/bin/lepsaino", f"#!/bin/sh\nprintf half >$3\n{failing}\n")
+        one.put(BUILT, f"#!/bin/sh\nprintf half >$3\n{failing}\n")
         for to in ("old", "new"):
             must_leave(f"mend, {failing}, {to}", was, one.run("mend", "dump", here / to), out=out, status=status)
 
@@ -876,7 +874,7 @@ def mend_stopped(folder):
     one.run()
     os.mkfifo(one.root / "wait")
     gate = os.open(one.root / "wait", os.O_RDWR)
-    one.put("target/bin/lepsaino", "#!/bin/sh\nprintf whole >$3\necho call >>calls\nread line <wait\necho {}\n")
+    one.put(BUILT, "#!/bin/sh\nprintf whole >$3\necho call >>calls\nread line <wait\necho {}\n")
     for number, held in ((signal.SIGINT, b"old"), (signal.SIGTERM, b"old"), (signal.SIGHUP, b"whole")):
         here = place(folder, old=b"old")
         (one.root / "calls").unlink()

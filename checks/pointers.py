@@ -1,4 +1,4 @@
-"""The audit of bitcode for 32-bit pointers: it lets a small sound text pass, and refuses each wrong change of it. Silent where all is well."""
+"""The audit of bitcode for 32-bit pointers: it lets small sound texts pass, and refuses each wrong change of them. Silent where all is well."""
 import pathlib
 import subprocess
 import sys
@@ -39,6 +39,7 @@ WRONG = [
     ("two pointers in a slice", "store i64 %a1, ptr %r1", "store ptr %a0, ptr %r1"),
     ("half a slice copied", "i64 16, i1", "i64 8, i1"),
     ("a copy whose length is worked out", "i64 16, i1", "i64 %a1, i1"),
+    ("a slice filled with zeros where it is lent", "  %r1 = load ptr", "  call void @llvm.memset.p0.i64(ptr %a0, i8 0, i64 16, i1 false)\n  %r1 = load ptr"),
     ("a slice filled with zeros", "  %r1 = load ptr", "  call void @llvm.memset.p0.i64(ptr %r0, i8 0, i64 16, i1 false)\n  %r1 = load ptr"),
     ("a pointer at a place worked out", LENGTH_PLACE + LENGTH_STORED, "  %r1 = getelementptr i8, ptr %r0, i64 %a1\n  store ptr %a0, ptr %r1, align 8\n"),
     ("a number behind a slice", LENGTH_PLACE, "  %r9 = getelementptr i8, ptr %r0, i64 8\n  %r1 = getelementptr i8, ptr %r9, i64 8\n"),
@@ -67,6 +68,83 @@ WRONG = [
     ("a global", "declare void @llvm.memset", "@table = global i64 0\ndeclare void @llvm.memset"),
     ("an argument of an unknown form", "(ptr %r0, i64 %a1)", "(ptr @table, i64 %a1)"),
 ]
+# One function gives a slice of a constant or what it was lent, two numbers come from another, and the call for C asks whether it was lent nothing.
+GIVING = """\
+@static.0 = private unnamed_addr constant [2 x i8] c"\\22,", align 1
+@static.1 = private unnamed_addr constant [0 x i8] zeroinitializer, align 1
+declare void @llvm.memset.p0.i64(ptr writeonly captures(none), i8, i64, i1 immarg) #4
+define internal noundef { ptr, i64 } @"pick"(ptr noundef %a0, i64 noundef %a1) #0 {
+start:
+  %r0 = alloca [16 x i8], align 8
+  %r1 = alloca ptr, align 8
+  %r2 = alloca [16 x i8], align 8
+  call void @llvm.memset.p0.i64(ptr %r0, i8 0, i64 16, i1 false)
+  store ptr @static.0, ptr %r0, align 8
+  %r3 = getelementptr i8, ptr %r0, i64 8
+  store i64 2, ptr %r3, align 8
+  store ptr %a0, ptr %r1, align 8
+  store ptr %a0, ptr %r2, align 8
+  %r4 = load { ptr, i64 }, ptr %r0, align 8
+  ret { ptr, i64 } %r4
+}
+define internal noundef { i64, i64 } @"count"(i64 noundef %a0) #0 {
+start:
+  %r0 = alloca [16 x i8], align 8
+  store i64 %a0, ptr %r0, align 8
+  %r1 = load { i64, i64 }, ptr %r0, align 8
+  ret { i64, i64 } %r1
+}
+define noundef i64 @lepsaino_pick(ptr noundef %a0, i64 noundef %a1) #0 {
+start:
+  %r0 = icmp eq ptr %a0, null
+  %r1 = zext i1 %r0 to i64
+  %r2 = getelementptr i8, ptr %a0, i64 %r1
+  %r3 = call { ptr, i64 } @"pick"(ptr %r2, i64 %a1)
+  %r4 = extractvalue { ptr, i64 } %r3, 0
+  %r5 = extractvalue { ptr, i64 } %r3, 1
+  %r6 = load i8, ptr %r4, align 1, !noundef !1
+  %r7 = call { i64, i64 } @"count"(i64 %r5)
+  %r8 = extractvalue { i64, i64 } %r7, 0
+  ret i64 %r8
+}
+"""
+FILLED = "(ptr %r0, i8 0, i64 16, i1 false)"
+WRONG_GIVING = [
+    ("half a slice begun with zeros", FILLED, "(ptr %r0, i8 0, i64 8, i1 false)"),
+    ("more than a slice begun with zeros", FILLED, "(ptr %r0, i8 0, i64 24, i1 false)"),
+    ("a slice begun with ones", FILLED, "(ptr %r0, i8 1, i64 16, i1 false)"),
+    ("a slice begun with a byte that is worked out", FILLED, "(ptr %r0, i8 %a1, i64 16, i1 false)"),
+    ("a slice begun to a length that is worked out", FILLED, "(ptr %r0, i8 0, i64 %a1, i1 false)"),
+    ("a pointer's frame begun with zeros", FILLED, "(ptr %r1, i8 0, i64 16, i1 false)"),
+    ("a slice filled with zeros behind its length", "  store i64 2, ptr %r3, align 8\n", "  store i64 2, ptr %r3, align 8\n  call void @llvm.memset.p0.i64(ptr %r0, i8 0, i64 16, i1 false)\n"),
+    ("a slice given as two numbers", "%r4 = load { ptr, i64 }, ptr %r0", "%r4 = load { i64, i64 }, ptr %r0"),
+    ("a slice given from its middle", "%r4 = load { ptr, i64 }, ptr %r0", "%r4 = load { ptr, i64 }, ptr %r3"),
+    ("a slice given from where a pointer leads", "%r4 = load { ptr, i64 }, ptr %r0", "%r4 = load { ptr, i64 }, ptr %a0"),
+    ("two pointers given", "%r4 = load { ptr, i64 }, ptr %r0", "%r4 = load { ptr, ptr }, ptr %r0"),
+    ("a lone pointer given as a slice", "%r4 = load { ptr, i64 }, ptr %r0", "%r4 = load { ptr, i64 }, ptr %r1"),
+    ("numbers given as a slice", "%r1 = load { i64, i64 }, ptr %r0", "%r1 = load { ptr, i64 }, ptr %r0"),
+    ("a slice given of what was never made", "ret { ptr, i64 } %r4", "ret { ptr, i64 } %r9"),
+    ("numbers in a slice's place", "ret { ptr, i64 } %r4", "ret { i64, i64 } %r4"),
+    ("a call with another pair", "call { ptr, i64 } @\"pick\"", "call { i64, i64 } @\"pick\""),
+    ("a pointer taken from two numbers", "extractvalue { i64, i64 } %r7, 0", "extractvalue { ptr, i64 } %r7, 0"),
+    ("a number taken from a slice's front", "extractvalue { ptr, i64 } %r3, 0", "extractvalue { i64, i64 } %r3, 0"),
+    ("a part of what is no pair", "extractvalue { ptr, i64 } %r3, 1", "extractvalue { ptr, i64 } %r2, 1"),
+    ("a third part", "extractvalue { ptr, i64 } %r3, 1", "extractvalue { ptr, i64 } %r3, 2"),
+    ("a pair given outside", "define internal noundef { i64, i64 }", "define noundef { i64, i64 }"),
+    ("a pointer read where a given one leads", "load i8, ptr %r4, align 1, !noundef !1", "load ptr, ptr %r4, align 8, !noundef !1"),
+    ("a caller's pointer compared with another", "icmp eq ptr %a0, null", "icmp eq ptr %a0, %r4"),
+    ("a caller's pointer ordered", "icmp eq ptr %a0, null", "icmp ult ptr %a0, null"),
+    ("a number asked whether it is null", "icmp eq ptr %a0, null", "icmp eq ptr %a1, null"),
+    ("a pointer of its own asked whether it is null", "  store ptr %a0, ptr %r1, align 8\n", "  %r9 = icmp eq ptr %r0, null\n  store ptr %a0, ptr %r1, align 8\n"),
+    ("a lent pointer asked whether it is null", "  store ptr %a0, ptr %r1, align 8\n", "  %r9 = icmp eq ptr %a0, null\n  store ptr %a0, ptr %r1, align 8\n"),
+    ("a constant that is not there", "store ptr @static.0", "store ptr @static.2"),
+    ("a function in a constant's place", "store ptr @static.0", "store ptr @lepsaino_pick"),
+    ("a constant in a number's place", "store i64 2, ptr %r3", "store i64 @static.0, ptr %r3"),
+    ("a constant of a pointer", "constant [0 x i8] zeroinitializer, align 1", "constant [1 x ptr] [ptr @static.0], align 8"),
+    ("a constant that can be written", "@static.1 = private unnamed_addr constant", "@static.1 = private unnamed_addr global"),
+    ("a constant from outside", "@static.1 = private unnamed_addr constant [0 x i8] zeroinitializer", "@static.1 = external constant [0 x i8]"),
+    ("a constant of numbers of another width", "constant [0 x i8] zeroinitializer, align 1", "constant [1 x i64] zeroinitializer, align 8"),
+]
 
 
 def passes(text):
@@ -77,12 +155,13 @@ def passes(text):
 
 
 def main():
-    if not passes(SOUND):
-        sys.exit("pointers: the audit refuses a sound text")
-    for title, old, new in WRONG:
-        assert SOUND.count(old) == 1, title
-        if passes(SOUND.replace(old, new)):
-            sys.exit(f"pointers: the audit lets pass {title}")
+    for sound, wrong in ((SOUND, WRONG), (GIVING, WRONG_GIVING)):
+        if not passes(sound):
+            sys.exit("pointers: the audit refuses a sound text")
+        for title, old, new in wrong:
+            assert sound.count(old) == 1, title
+            if passes(sound.replace(old, new)):
+                sys.exit(f"pointers: the audit lets pass {title}")
 
 
 main()

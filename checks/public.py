@@ -1,17 +1,23 @@
 #!/usr/bin/env python3
-"""Every function that another crate or C can call is named in the theorem that contracts ask nothing and settle their answers, or is an exception."""
+"""Every function that another crate or C can call is named in the theorem that contracts ask nothing and settle their answers, or is an exception.
+
+An export that hands a call on is named by the theorem that its contract is that of the call."""
 import re
 import sys
 from pathlib import Path
 
 CRATES = Path(__file__).resolve().parent.parent / "crates"
 THEOREMS = [CRATES / "contracts/specs" / name for name in ("Public.antt", "Interface.antt")]
+HANDED_ON = CRATES / "lepsaino_c_c/proofs/Handed.antt"
 
-# What these print or read is not in the logic, so no contract could settle it.
+# What these print, read or open is not in the logic, nor the words of an error of std, so no contract could settle it.
 EXCEPTIONS = {
     ("console", "print_space"): "prints",
     ("console", "print_refusal"): "prints",
     ("console", "print_front"): "prints",
+    ("console", "fail"): "prints",
+    ("console", "open_file"): "opens a file",
+    ("console", "path_of"): "gives an error of std where bytes are no path",
     ("console", "read_some"): "reads a file",
     ("replies", "answer_file"): "reads a file and prints",
 }
@@ -54,8 +60,22 @@ def named_in(theorem):
     return {(signed[a], f) for a, f, b, g, c, h in found if signed[a] == proved[b] == proved[c] and f == g == h}
 
 
+def handed_on(theorem):
+    """The functions whose whole contracts a theorem finds equal to those of another crate's functions of the same names, each with that function."""
+    text = theorem.read_text()
+    signed, proved = aliases(text, r"specs\.contracts"), aliases(text, "proofs")
+    found = []
+    for record, part, of in (("SameSignatures", "ended", signed), ("SameAsked", r"Reads\.Asked", proved), ("SameLearnt", r"Reads\.Learnt", proved)):
+        body = re.search(rf"^pub record {record} : Type \d+ where\n((?:  .*\n)+)", text, re.M)
+        is_proved = re.search(rf"^pub [\w-]+ : {record}$", text, re.M)
+        fields = re.findall(rf"^  pub (\w+) : ([\w-]+)\.(\w+)\.{part} ≡ ([\w-]+)\.(\w+)\.{part}$", body[1], re.M) if body and is_proved else []
+        found.append({((of[a], f), (of[b], g)) for name, a, f, b, g in fields if name == f == g})
+    return set.intersection(*found)
+
+
 public = set().union(*(callable_in(crate) for crate in CRATES.iterdir()))
 named = set().union(*(named_in(theorem) for theorem in THEOREMS))
+named |= {export for export, call in handed_on(HANDED_ON) if call in named}
 faults = [f"{c}::{f} is public, and no theorem names it" for c, f in sorted(public - named - set(EXCEPTIONS))]
 faults += [f"{c}::{f} is named, and is not public" for c, f in sorted(named - public)]
 faults += [f"{c}::{f} is an exception, and is not public or is named too" for c, f in sorted(set(EXCEPTIONS) - (public - named))]

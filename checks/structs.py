@@ -20,7 +20,7 @@ def declared(name):
 
 def crossing(name):
     """The same of a struct that is laid out as in C; the fields of one within it that the header does not name stand in its place."""
-    body = re.search(rf"^#\[repr\(C\)\]\npub struct {name} \{{\n(.*?)^\}}", RATTLE, re.M | re.S)
+    body = re.search(rf"^#\[repr\(C\)\]\n(?:#\[derive\([\w, ]*\)\]\n)*pub struct {name} \{{\n(.*?)^\}}", RATTLE, re.M | re.S)
     fields = []
     for field, kind, array, size in re.findall(r"^ +pub (\w+): (?:(\w+)|\[(\w+); (\w+)\]),$", body[1] if body else "", re.M):
         if kind and kind not in TYPES:

@@ -7,7 +7,6 @@ use borrow.Author.Tests.{leb-true, leb-false}
 use Rattle.text.proofs.Output.{none_fitted, put_fitted}
 use Rattle.text.specs.Names.{if_named, name}
 use Rattle.names.proofs.fit_some.Goals as goal
-use Rattle.names.proofs.fit_some.Goals.{Start}
 
 pub put_quoted-requires : goal.put_quoted-requires
 put_quoted-requires c =

@@ -9,7 +9,6 @@ use Rattle.text.proofs.Escapes.{count_name, escaped_short, name_some}
 use Rattle.text.proofs.Output.{leb_capped}
 use Rattle.text.specs.Names.{name}
 use Rattle.names.proofs.has_room.Goals as goal
-use Rattle.names.proofs.has_room.Goals.{Start}
 
 pub returns-then-room-bytes : goal.returns-then-room-bytes
 returns-then-room-bytes c =

@@ -3,7 +3,6 @@ use mathlib.Core.Path.{refl}
 use native.Mathlib.Omega.{arith}
 use Rattle.text.proofs.Escapes.{count_name, name_none, name_some}
 use Rattle.names.proofs.name_length.Goals as goal
-use Rattle.names.proofs.name_length.Goals.{Start}
 
 pub returns-then-named : goal.returns-then-named
 returns-then-named c =

@@ -6,7 +6,7 @@ use Rattle.text.proofs.Escapes.{escape_high, escape_low, escape_quote, escape_se
 use Rattle.text.proofs.Output.{stores}
 use Rattle.text.specs.Names.{escape}
 use Rattle.names.proofs.put_escape.Goals as goal
-use Rattle.names.proofs.put_escape.Goals.{Else-b-eq92, Start}
+use Rattle.names.proofs.put_escape.Goals.{Else-b-eq92}
 
 pub put_hexed-requires : goal.put_hexed-requires
 put_hexed-requires c = rw (escape_low c.args.b (omega (arith, c.if-b-lt32.true))) at c.requires

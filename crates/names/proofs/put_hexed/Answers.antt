@@ -4,7 +4,6 @@ use lib.ListN.{length-set}
 use Rattle.text.proofs.Output.{stores}
 use Rattle.text.specs.Names.{hexed}
 use Rattle.names.proofs.put_hexed.Goals as goal
-use Rattle.names.proofs.put_hexed.Goals.{Start}
 
 pub bounds-out-1 : goal.bounds-out-1
 bounds-out-1 c = simp length-set (omega arith)

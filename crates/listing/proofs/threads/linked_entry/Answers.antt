@@ -13,7 +13,7 @@ use Rattle.listing.proofs.ThreadIndex.{seeks_thread}
 use Rattle.listing.specs.Index.{Leads, place_of}
 use Rattle.listing.specs.ThreadIndex.{has_thread, is_gone_kind}
 use Rattle.listing.proofs.threads.linked_entry.Goals as goal
-use Rattle.listing.proofs.threads.linked_entry.Goals.{After-place_of-place, After-word, At-loop-i, Else-i, Else-word-pointer}
+use Rattle.listing.proofs.threads.linked_entry.Goals.{After-place_of-place, At-loop-i, Else-i, Else-word-pointer}
 
 placed : (c : After-place_of-place)
     → let a = c.args in
