@@ -3,7 +3,7 @@ use Prim.Native.Nat.{◌+◌}
 use mathlib.Core.Path.{◌≡◌, refl, sym, ap, ◌∙◌}
 use native.Mathlib.Omega.{arith}
 use lib.ListN.{get_or}
-use Rattle.rows.proofs.Lowest.{count-le, count-more}
+use Rattle.rows.proofs.Lowest.{count_le, count_more}
 use Rattle.rows.specs.Lowest.{count}
 use Rattle.console.specs.Changed.{is_no_dot}
 use Rattle.console.proofs.count_changed.Goals as goal
@@ -19,12 +19,12 @@ counted : (c : After-one_if_changed-changed)
     c.loop-k.changed + c.one_if_changed-changed.result ≡ count (λ i. is_no_dot (get_or a.bytes.now (a.from + i) 0)) (c.loop-k.k + 1)
 counted c =
     let a = c.args in
-    rw (c.loop-k.invariant.1, c.one_if_changed-changed.ensures, c.byte.ensures) (sym (count-more (λ i. is_no_dot (get_or a.bytes.now (a.from + i) 0)) c.loop-k.k))
+    rw (c.loop-k.invariant.1, c.one_if_changed-changed.ensures, c.byte.ensures) (sym (count_more (λ i. is_no_dot (get_or a.bytes.now (a.from + i) 0)) c.loop-k.k))
 
 pub overflow_add-changed : goal.overflow_add-changed
 overflow_add-changed c =
     let a = c.args in
-    omega (arith, counted c, count-le (λ i. is_no_dot (get_or a.bytes.now (a.from + i) 0)) (c.loop-k.k + 1))
+    omega (arith, counted c, count_le (λ i. is_no_dot (get_or a.bytes.now (a.from + i) 0)) (c.loop-k.k + 1))
 
 pub overflow_add-k : goal.overflow_add-k
 overflow_add-k c = omega arith
