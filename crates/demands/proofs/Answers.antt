@@ -22,12 +22,12 @@ use Rattle.writing.specs.Writing as writing
 use Rattle.writing.specs.declared.Outcome.TheVariants as outcome
 
 -- rows behind others have passed where all have
-pub passed-behind : (rows more : List Row) → Accepted (rows ++ more) → Accepted more
-passed-behind rows more passed = then_rest rows more (passed_before rows more passed) ∙ passed
+pub passed_behind : (rows more : List Row) → Accepted (rows ++ more) → Accepted more
+passed_behind rows more passed = then_rest rows more (passed_before rows more passed) ∙ passed
 
-pub searched-is : (v : Verdict) (sought name : Name) → found_by v sought ≡ Searched name → (v ≡ Passed) × (name ≡ sought)
-searched-is (Refused f) sought name e = (cc, cc)
-searched-is Passed sought name e = (refl, cc)
+pub searched_is : (v : Verdict) (sought name : Name) → found_by v sought ≡ Searched name → (v ≡ Passed) × (name ≡ sought)
+searched_is (Refused f) sought name e = (cc, cc)
+searched_is Passed sought name e = (refl, cc)
 
 pub given_is : (v : Verdict) (sought event : Event) → shown_by v sought ≡ Given event → (v ≡ Passed) × (event ≡ sought)
 given_is (Refused f) sought event e = (cc, cc)
@@ -37,23 +37,23 @@ pub written_is : (v : Verdict) (m n : ℕ) → listing.listed_by v m ≡ Written
 written_is (Refused f) m n e = (cc, cc)
 written_is Passed m n e = (refl, cc)
 
-pub done-is : (v : Verdict) (m n : ℕ) → writing.outcome_by v m ≡ outcome.Done n → (v ≡ Passed) × (n ≡ m)
-done-is (Refused f) m n e = (cc, cc)
-done-is Passed m n e = (refl, cc)
+pub done_is : (v : Verdict) (m n : ℕ) → writing.outcome_by v m ≡ outcome.Done n → (v ≡ Passed) × (n ≡ m)
+done_is (Refused f) m n e = (cc, cc)
+done_is Passed m n e = (refl, cc)
 
-pub refused-is : (v : Verdict) (m : ℕ) (f : Refusal) → writing.outcome_by v m ≡ outcome.Refused f → v ≡ Refused f
-refused-is (Refused g) m f e = cc
-refused-is Passed m f e = cc
+pub refused_is : (v : Verdict) (m : ℕ) (f : Refusal) → writing.outcome_by v m ≡ outcome.Refused f → v ≡ Refused f
+refused_is (Refused g) m f e = cc
+refused_is Passed m f e = cc
 
 -- what was written is the text: its length is given, it stands in front of the old bytes past it, and no row is broken
 module _ (rows : List Row) (text old new : List ℕ) (n : ℕ) (gave : Gave rows text old new (Written n)) where
-  pub gave-accepted : Accepted rows
-  gave-accepted = (written_is (first_broken rows) (length text) n (sym gave.answered)).0
+  pub gave_accepted : Accepted rows
+  gave_accepted = (written_is (first_broken rows) (length text) n (sym gave.answered)).0
 
   pub wrote : (n ≡ length text) × (new ≡ text ++ drop n old)
   wrote =
       let written = written_is (first_broken rows) (length text) n (sym gave.answered) in
       (written.1, gave.output ∙ rw (written.0, written.1))
 
-  pub wrote-front : take n new ≡ text
-  wrote-front = ap (take n) wrote.1 ∙ take_at text (drop n old) n (sym wrote.0)
+  pub wrote_front : take n new ≡ text
+  wrote_front = ap (take n) wrote.1 ∙ take_at text (drop n old) n (sym wrote.0)

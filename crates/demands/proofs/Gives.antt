@@ -19,7 +19,7 @@ use Rattle.trace.specs.Times.{ticks_of}
 use Rattle.writing.specs.Writing.{Change, filing, formatting, recording, registering, removing, said}
 use Rattle.writing.specs.declared.Outcome.TheVariants.{Done}
 use Rattle.demands.specs.Gives.{Gives}
-use Rattle.demands.proofs.Answers.{done-is, given_is, passed-behind}
+use Rattle.demands.proofs.Answers.{done_is, given_is, passed_behind}
 
 event_gives : (file : Option (List ℕ)) (s : List ℕ) (position : ℕ) (e : Event) → event_of file s position ≡ Given e
     → let h = header_of s in
@@ -28,11 +28,11 @@ unfolding event_of event_in row25
 event_gives file s position e is =
     let (passed, same) = given_is (first_broken (event_rows file s (header_of s) position)) (event_at file s (header_of s) position) e is in
     let last = row25 position (event_count s (header_of s)) in
-    (leb-false _ _ (unbroken (passed-behind (dump_rows s (header_of s) ++ file_rows file) (last ∷ []) passed) last here), ap (λ (e : Event). e.slot) same, ap (λ (e : Event). e.ticks) same)
+    (leb-false _ _ (unbroken (passed_behind (dump_rows s (header_of s) ++ file_rows file) (last ∷ []) passed) last here), ap (λ (e : Event). e.slot) same, ap (λ (e : Event). e.ticks) same)
 
 -- a call that writes gives what it says
 change_gives : (c : Change) (n : ℕ) → said c ≡ Done n → n ≡ c.gives
-change_gives c n is = (done-is (first_broken c.rows) c.gives n is).1
+change_gives c n is = (done_is (first_broken c.rows) c.gives n is).1
 
 pub gives : Gives
 unfolding filing formatting recording registering removing

@@ -23,7 +23,7 @@ use Rattle.writing.specs.Keeping.{SameEvents}
 use Rattle.writing.specs.Writing.{altered, outcome_by, cut, formatting, next_slot, recording, registering, removing}
 use Rattle.demands.specs.History.{Call, DoesNotFormat, NoneFormats, Typed, Write, accepted_writes, after, format, given, if_accepted, left_by, read, register, remove, write, writes_by}
 use Rattle.demands.specs.Writings.{Recorded}
-use Rattle.demands.proofs.Answers.{refused-is}
+use Rattle.demands.proofs.Answers.{refused_is}
 use Rattle.demands.proofs.Writings.{recording_leaves, registering_leaves, removing_leaves}
 
 -- one slot on is one more, modulo the number of slots
@@ -123,7 +123,7 @@ module _ (n mask : ℕ) (some : 0 < n) where
       by Passed e =
           let leaves = removing_leaves pointer s e in
           events_hold ws s (removing pointer s).leaves (rw e at leaves.header) (rw e at leaves.events) (rw e at (leaves.sound (min (length ws) n))) holds
-  call_holds (format f) ws s typed (fault, refused) holds = rw (append-nil, refused-is (first_broken (formatting f s).rows) _ fault refused) holds
+  call_holds (format f) ws s typed (fault, refused) holds = rw (append-nil, refused_is (first_broken (formatting f s).rows) _ fault refused) holds
   call_holds (read q) ws s typed none holds = rw append-nil holds
 
   -- so do all calls, one after another

@@ -21,7 +21,7 @@ use Rattle.trace.specs.Table.{dump_rows, row14, row15, row25}
 use Rattle.demands.specs.Keys.{Keys, key_at}
 use Rattle.demands.specs.Page.{TakenForOne, WrittenLine, by_itself, in_listing, key_text, line_in, read_by_page}
 use Rattle.demands.specs.Shown.{ReadingAccepted}
-use Rattle.demands.proofs.Answers.{gave-accepted, passed-behind, wrote-front}
+use Rattle.demands.proofs.Answers.{gave_accepted, passed_behind, wrote_front}
 use Rattle.demands.proofs.BareNumbers.{bare_numbers}
 use Rattle.demands.proofs.Page.{first_line, line_found, line_key, object}
 
@@ -67,14 +67,14 @@ of_line file s r p line passed rate terms below is =
 of_event : (r : Reading) (p : ℕ) (line : List ℕ) → WrittenLine r p line → OfEvent r p line
 unfolding row25
 of_event r p line (in_listing file s old new n gave below is) =
-    let text = wrote-front _ _ old new n gave ∙ sym (append-nil _) in
-    of_line file s r p line (gave-accepted _ _ old new n gave) (search among depth 20) (search among depth 20) below
+    let text = wrote_front _ _ old new n gave ∙ sym (append-nil _) in
+    of_line file s r p line (gave_accepted _ _ old new n gave) (search among depth 20) (search among depth 20) below
     (is ∙ ap (λ (t : List ℕ). line_in t p) text ∙ line_found file s (header_of s) r _ p [] below)
 of_event r p line (by_itself file s old new n gave is) =
-    let passed = gave-accepted _ _ old new n gave in
-    let text = wrote-front _ _ old new n gave ∙ sym (append-nil _) in
+    let passed = gave_accepted _ _ old new n gave in
+    let text = wrote_front _ _ old new n gave ∙ sym (append-nil _) in
     of_line file s r p line passed (search among depth 20) (search among depth 20)
-    (leb-false _ _ (unbroken (passed-behind (dump_rows s (header_of s) ++ term_rows file r (event_count s (header_of s))) _ passed) (row25 p (event_count s (header_of s))) here))
+    (leb-false _ _ (unbroken (passed_behind (dump_rows s (header_of s) ++ term_rows file r (event_count s (header_of s))) _ passed) (row25 p (event_count s (header_of s))) here))
     (is ∙ ap (λ (t : List ℕ). line_in t 0) text ∙ first_line file s (header_of s) r p [])
 
 on_page : (one two : Reading) (p q : ℕ) (a b : List ℕ) → WrittenLine one p a → WrittenLine two q b

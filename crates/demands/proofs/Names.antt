@@ -47,7 +47,7 @@ use Rattle.trace.specs.declared.ThreadKind.{ThreadKind}
 use Rattle.trace.specs.declared.ThreadKind.TheVariants.{Gone, Live}
 use Rattle.trace.specs.declared.Wanted.TheVariants as wanted
 use Rattle.demands.specs.Names.{Extends, IsThread, LiesThere, LiesWithin, Lowest, Names, name_shown}
-use Rattle.demands.proofs.Answers.{given_is, passed-behind, searched-is}
+use Rattle.demands.proofs.Answers.{given_is, passed_behind, searched_is}
 
 -- a name of the name file, which the registry has none of
 abbrev is_filed : Name → Bool
@@ -220,7 +220,7 @@ module _ (s : List ℕ) where
 
   find_is : (pointer : ℕ) (name : Name) → find_name s pointer ≡ found.Searched name → (first_broken (registry_rows s h) ≡ Passed) × (name ≡ name_of s h pointer)
   unfolding find_name
-  find_is pointer = searched-is (first_broken (registry_rows s h)) (name_of s h pointer)
+  find_is pointer = searched_is (first_broken (registry_rows s h)) (name_of s h pointer)
 
   find_within : (pointer : ℕ) → LiesWithin (name_found (find_name s pointer)) s
   find_within pointer = by (find_name s pointer) refl
@@ -231,7 +231,7 @@ module _ (s : List ℕ) where
 
   find_with_is : (file : Option (List ℕ)) (pointer : ℕ) (name : Name) → find_name_with file s pointer ≡ found.Searched name → name ≡ name_with file s h pointer
   unfolding find_name_with
-  find_with_is file pointer name e = (searched-is (first_broken (finding_rows file s h)) (name_with file s h pointer) name e).1
+  find_with_is file pointer name e = (searched_is (first_broken (finding_rows file s h)) (name_with file s h pointer) name e).1
 
   find_with_within : (file : Option (List ℕ)) (pointer : ℕ) → LiesThere file s (name_found (find_name_with file s pointer))
   unfolding find_name_with
@@ -239,7 +239,7 @@ module _ (s : List ℕ) where
     where
       by : (v : Verdict) → first_broken (finding_rows file s h) ≡ v → LiesThere file s (name_found (found_by v (name_with file s h pointer)))
       by (Refused f) e = omega arith
-      by Passed e = with_there file s (passed-behind (registry_rows s h) (file_rows file) e) h (passed_before (registry_rows s h) (file_rows file) e) pointer
+      by Passed e = with_there file s (passed_behind (registry_rows s h) (file_rows file) e) h (passed_before (registry_rows s h) (file_rows file) e) pointer
 
   -- an event that is given
   module _ (file : Option (List ℕ)) (position : ℕ) (e : Event) (answer : event_of file s position ≡ shown.Given e) where
@@ -267,7 +267,7 @@ module _ (s : List ℕ) where
     sound = passed_before (dump_rows s h) (file_rows file ++ last) event_is.0
 
     right : Accepted (file_rows file)
-    right = passed_before (file_rows file) last (passed-behind (dump_rows s h) (file_rows file ++ last) event_is.0)
+    right = passed_before (file_rows file) last (passed_behind (dump_rows s h) (file_rows file ++ last) event_is.0)
 
     given_within : LiesThere file s e.name
     given_within = rw (event_name e.by refl) (by_context file s right h (registry_passed s h sound) e.by e.slot)

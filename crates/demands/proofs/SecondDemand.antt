@@ -1,6 +1,6 @@
 -- The second demand: what a listing writes, and the parts proved elsewhere.
 use Rattle.demands.specs.Demands.{SecondDemand}
-use Rattle.demands.proofs.Answers.{wrote, wrote-front}
+use Rattle.demands.proofs.Answers.{wrote, wrote_front}
 use Rattle.demands.proofs.BareNumbers.{bare_numbers}
 use Rattle.demands.proofs.Gives.{gives}
 use Rattle.demands.proofs.JsonLines.{json_lines}
@@ -44,8 +44,8 @@ second_demand = record {
   empty_ring = empty_ring;
   json = json_lines;
   texts = texts;
-  numbers = λ file s r old new n gave. rw (wrote-front _ _ old new n gave) (listing_numbers file s _ r);
-  line_numbers = λ file s r position old new n gave. rw (wrote-front _ _ old new n gave) (line_numbers file s _ r position);
+  numbers = λ file s r old new n gave. rw (wrote_front _ _ old new n gave) (listing_numbers file s _ r);
+  line_numbers = λ file s r position old new n gave. rw (wrote_front _ _ old new n gave) (line_numbers file s _ r position);
   bare_numbers = bare_numbers;
   keys = keys;
 }

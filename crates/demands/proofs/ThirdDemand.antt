@@ -34,7 +34,7 @@ use Rattle.demands.specs.History.{NeverBack, Write, accepted_writes, after, give
 use Rattle.demands.specs.Masks.{range}
 use Rattle.demands.specs.Shown.{ReadingAccepted, lines_of, shown_ticks}
 use Rattle.demands.specs.Writings.{Formatted}
-use Rattle.demands.proofs.Answers.{done-is}
+use Rattle.demands.proofs.Answers.{done_is}
 use Rattle.demands.proofs.History.{Holds, calls_hold, no_write}
 use Rattle.demands.proofs.OrderAndTime.{not_above, not_below}
 use Rattle.demands.proofs.Shown.{count_is, last_length, text_is, words_are}
@@ -55,10 +55,10 @@ fresh_holds f s n word done = (
 )
   where
     passed : Accepted (formatting f s).rows
-    passed = (done-is (first_broken (formatting f s).rows) (formatting f s).gives n done).0
+    passed = (done_is (first_broken (formatting f s).rows) (formatting f s).gives n done).0
 
     slots : fresh_slots f (length s) ≡ n
-    slots = sym (done-is (first_broken (formatting f s).rows) (formatting f s).gives n done).1
+    slots = sym (done_is (first_broken (formatting f s).rows) (formatting f s).gives n done).1
 
     makes : Formatted f s (left (formatting f s) s) (fresh_header f (fresh_end f (length s)))
     makes = formatting_makes f s word passed

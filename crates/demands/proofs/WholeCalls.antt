@@ -16,7 +16,7 @@ use Rattle.words.specs.Masks.{width_to}
 use Rattle.words.specs.declared.Order.{Order}
 use Rattle.words.specs.declared.Order.TheVariants.{Big, Little}
 use Rattle.writing.proofs.Opened.{open_writing}
-use Rattle.writing.proofs.Answers.{by-passing}
+use Rattle.writing.proofs.Answers.{by_passing}
 use Rattle.writing.proofs.FreshBytes.{fresh_length}
 use Rattle.writing.specs.Bytes.{entry_bytes, free_entry, header_bytes, slot_bytes}
 use Rattle.writing.specs.Table.{row24}
@@ -68,7 +68,7 @@ format_passes o s e = rw e refl
 formatted : (o : Order) (s : List ℕ) → length s ≡ 168 → whole_fresh o s ≡ fresh_dump o
 unfolding slot_size formatting fresh_header whole_format
 formatted o s e =
-    sym (by-passing (formatting (whole_format o) s) s (format_passes o s e)).1
+    sym (by_passing (formatting (whole_format o) s) s (format_passes o s e)).1
     ∙ rw e (over_all (fresh_bytes (whole_format o) 168) s (fresh_length (whole_format o) 168 ∙ sym e))
     ∙ fresh o
 
@@ -91,7 +91,7 @@ steps Little = record { pumped = (refl, refl); first = (refl, refl); second = (r
 -- formatting gives three slots
 pub three_slots : (o : Order) (s : List ℕ) → length s ≡ 168 → said (formatting (whole_format o) s) ≡ Done 3
 unfolding slot_size formatting fresh_header whole_format
-three_slots o s e = sym (by-passing (formatting (whole_format o) s) s (format_passes o s e)).0 ∙ rw e
+three_slots o s e = sym (by_passing (formatting (whole_format o) s) s (format_passes o s e)).0 ∙ rw e
 
 -- what the third demand supposes of the calls
 pub calls_typed : Each Typed whole_calls

@@ -10,7 +10,7 @@ use Rattle.trace.specs.Table.{row16, row25}
 use Rattle.events.specs.Events.{event_at, event_in}
 use Rattle.events.specs.Listing.{line_at}
 use Rattle.walk.proofs.Walks.{event_met}
-use Rattle.listing.proofs.Answers.{an-event, gave-more, gave_refused, gave-fitted, gave-short, no_event}
+use Rattle.listing.proofs.Answers.{an_event, gave_more, gave_refused, gave_fitted, gave_short, no_event}
 use Rattle.listing.proofs.Fitting.{fits}
 use Rattle.listing.proofs.Naming.{event_lies}
 use Rattle.listing.specs.Accepted.{Fits, LiesIn}
@@ -56,13 +56,13 @@ returns-then-out-length c =
     let a = c.args in
     let events = event_count a.dump.now a.header in
     let text = line_at (if_given a.given a.names.now) a.dump.now a.header a.reading a.position in
-    gave-more (row25 a.position events ∷ []) (row16 (length text) (length a.out.now) ∷ []) (an-event a.position events (within (goal.at.returns-then-out-length c).Else-events-position))
-    (gave-short text (size (goal.at.returns-then-out-length c).Else-events-position) (rw (event_is (goal.at.returns-then-out-length c).After-event_at-event) at c.fit_event-length.ensures) c.if-out-length.true)
+    gave_more (row25 a.position events ∷ []) (row16 (length text) (length a.out.now) ∷ []) (an_event a.position events (within (goal.at.returns-then-out-length c).Else-events-position))
+    (gave_short text (size (goal.at.returns-then-out-length c).Else-events-position) (rw (event_is (goal.at.returns-then-out-length c).After-event_at-event) at c.fit_event-length.ensures) c.if-out-length.true)
 
 pub returns : goal.returns
 returns c =
     let a = c.args in
     let events = event_count a.dump.now a.header in
     let text = line_at (if_given a.given a.names.now) a.dump.now a.header a.reading a.position in
-    gave-more (row25 a.position events ∷ []) (row16 (length text) (length a.out.now) ∷ []) (an-event a.position events (within (goal.at.returns c).Else-events-position))
-    (gave-fitted text (size (goal.at.returns c).Else-events-position) (rw (event_is (goal.at.returns c).After-event_at-event) at c.fit_event-length.ensures) c.if-out-length.false)
+    gave_more (row25 a.position events ∷ []) (row16 (length text) (length a.out.now) ∷ []) (an_event a.position events (within (goal.at.returns c).Else-events-position))
+    (gave_fitted text (size (goal.at.returns c).Else-events-position) (rw (event_is (goal.at.returns c).After-event_at-event) at c.fit_event-length.ensures) c.if-out-length.false)
