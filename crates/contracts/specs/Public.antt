@@ -175,7 +175,7 @@ pub record Pieces : Type 0 where
 pub record Arguments : Type 0 where
   pub number_in : Settled arguments-contracts.number_in.ended arguments.number_in.Reads.Asked arguments.number_in.Reads.Learnt
 
--- what the programs share, but for the functions that print or read a file: what a program prints is tested against stored text
+-- what the programs share, but for the functions that print, open or read a file, and the path of bytes, whose error is the library's: what a program prints is tested against stored text
 pub record Console : Type 0 where
   pub word_at : Settled console-contracts.word_at.ended console.word_at.Reads.Asked console.word_at.Reads.Learnt
   pub number_at : Settled console-contracts.number_at.ended console.number_at.Reads.Asked console.number_at.Reads.Learnt

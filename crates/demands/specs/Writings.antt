@@ -92,7 +92,7 @@ pub record Registered (object : Object) (name s t : List ℕ) (h : Header) : Typ
   pub sound : (n : ℕ) → check_of s ≡ Sound h n → check_of t ≡ Sound h n
   pub one_each : OneEach s h → OneEach t h
 
--- an entry is of type 1, and no other in_use entry of type 1 has the pointer
+-- an entry is of type 1, and no other in-use entry of type 1 has the pointer
 abbrev pub IsOnly : List ℕ → Header → ℕ → ℕ → Type 0
 IsOnly s h pointer entry =
     (type_at s (entry_at h entry) ≡ 1) × ((i : ℕ) → i < entry_count h → is_wanted (Thread Live pointer) s h i ≡ true → i ≡ entry)

@@ -1,5 +1,5 @@
 -- Laws of numbers by a table: their digits two, four and eight less, how many there are, and the two kinds of numbers.
-use Prim.Native.Nat.{ℕ, zero, suc, ◌+◌, ◌/◌, ◌%◌, ◌≤◌, ◌<◌}
+use Prim.Native.Nat.{ℕ, zero, suc, ◌+◌, ◌/◌, ◌%◌, ◌^◌, ◌≤◌, ◌<◌}
 use mathlib.Core.Bool.{Bool, true, false}
 use mathlib.Core.List.{List, [], ◌∷◌, ◌++◌, append_assoc}
 use mathlib.Core.Path.{◌≡◌, refl}
@@ -9,7 +9,8 @@ use lib.Dec.{ltb}
 use lib.ListN.{length, length-append}
 use borrow.Author.Tests.{le-ltb, lt-ltb, ltb-false}
 use Rattle.text.proofs.Output.{behind}
-use Rattle.text.specs.Numbers.{digit, is_bare, quoted}
+use Rattle.text.proofs.Digits.{number_short}
+use Rattle.text.specs.Numbers.{digit, is_bare, number, quoted}
 use Rattle.text.specs.Output.{Put, Wrote}
 use Rattle.numbers.specs.Pairs.{digits_by, digits_in_by, eight_by, four_by, number_by, pair_by}
 
@@ -80,3 +81,7 @@ module _ (table : List ℕ) where
   pub quoted_by : (n : ℕ) → is_bare n ≡ false → number_by table n ≡ quoted (digits_by table n)
   unfolding number_by
   quoted_by n big = rw big
+
+-- no text is longer than 22 bytes
+pub never_short : (room x : ℕ) → x < 2 ^ 64 → 22 ≤ room → ltb room (length (number x)) ≡ false
+never_short room x fits enough = le-ltb room (length (number x)) (omega (arith, number_short x fits))

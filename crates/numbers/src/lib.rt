@@ -68,6 +68,7 @@ pub fn fit_number(out: &mut [u8], x: u64, pairs: &[u8; 200]) -> usize
 }
 
 // Counts digits only near the end of the output: no text is longer than 22 bytes.
+#[tactic(auto, using(crate::proofs::Steps::never_short))]
 fn is_short(room: usize, x: u64) -> bool
     ensures { result ≡ ltb room (length (number x)) }
 {

@@ -19,7 +19,7 @@ loop-i-smaller c = omega arith
 pub loop-i-preserved : goal.loop-i-preserved
 loop-i-preserved c =
     let a = c.args in
-    (omega arith, below_more _ _ c.loop-i.invariant.1 (no_zero a.dump.now c.part-name.result.now a.at a.size c.part-name.ensures.bytes c.loop-i.i (omega arith) (λ zero. omega (arith, c.if-name-i-eq0.false))))
+    (omega arith, below_more _ _ c.loop-i.invariant.1 (no_zero a.dump.now c.part-name.result.now a.at a.size c.part-name.ensures.bytes c.loop-i.i (omega arith) (λ zero. omega arith)))
 
 pub returns-then-i-name : goal.returns-then-i-name
 returns-then-i-name c =

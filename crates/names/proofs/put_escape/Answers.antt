@@ -33,7 +33,7 @@ pub returns-then-b-eq92 : goal.returns-then-b-eq92
 returns-then-b-eq92 c = rw (escape_slash c.args.b c.if-b-eq92.true) c.put_slashed-then-b-eq92.ensures
 
 plain : (c : Else-b-eq92) → escape c.args.b ≡ c.args.b ∷ []
-plain c = escape_self c.args.b (omega (arith, c.if-b-lt32.false)) (omega (arith, c.if-b-gt126.false)) c.if-b-eq34.false c.if-b-eq92.false
+plain c = escape_self c.args.b (omega arith) (omega arith) c.if-b-eq34.false c.if-b-eq92.false
 
 pub bounds-out-0 : goal.bounds-out-0
 bounds-out-0 c = let a = c in rw (plain c) at a.requires
