@@ -51,7 +51,7 @@ def respellings():
 
 
 def of_function(path):
-    return os.path.basename(path) in ("Proof.antt", "Invariants.antt", "Answers.antt") and os.path.basename(os.path.dirname(path)) != "proofs"
+    return os.path.basename(path) in ("Proof.antt", "Invariants.antt", "Answers.antt") and "/proofs/" in os.path.dirname(path) + "/" and os.path.basename(os.path.dirname(path)) != "proofs"
 
 
 def imported():

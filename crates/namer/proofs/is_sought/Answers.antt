@@ -7,6 +7,4 @@ returns-in-Damaged c = rw c.in-Damaged.is c.is_damaged.ensures
 
 pub returns-in-Naming : goal.returns-in-Naming
 unfolding is_sought_at
-returns-in-Naming c =
-    rw c.in-Naming.is
-    (rw (c.number_at.ensures, c.kind_of.ensures, c.kind_at.ensures) at c.both.ensures)
+returns-in-Naming c = rw c.in-Naming.is cc
