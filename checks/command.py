@@ -450,7 +450,7 @@ def mends_over(folder):
 
 def mends_by_name(folder):
     """Names of any kind; a file named mend is listed by another name of it."""
-    for name in ("a dump", "-f", "--", "a\nb\n", "mend", "*"):
+    for name in ("a dump", "-f", "--", "a\nb\n", "mend", "*", os.fsdecode(b"a \xff\xfe")):
         here, there = place(folder, **{name: ALL}), place(folder)
         must_mend(f"from {name!r}", run(here, "mend", name, there / "copy"), there / "copy", [])
         must_mend(f"to {name!r}", run(there, "mend", here / name, name), there / name, ["copy"])
@@ -461,6 +461,22 @@ def mends_by_name(folder):
     done = [run(here, name, *GOOD) for name in ("./mend", "mend")]
     right = [(one.stdout, one.stderr, one.returncode) for one in done] == [(LINES, b"", 0), (b"", MEND_USAGE, 2)]
     check("a file named mend", right, done)
+
+
+def takes_any_bytes(folder):
+    """A name that is not UTF-8 is taken and told as any other, and nothing stays of how it goes to the program."""
+    odd = os.fsdecode(b"\xe4 \xff")
+    here, room = place(folder, **{f"dump{odd}": PUMP, f"names{odd}": NAMES}), place(folder)
+    for what, words, right in (
+        ("listed", (f"dump{odd}", *GOOD), (LINES, b"", 0)),
+        ("listed with names", (f"dump{odd}", *GOOD, f"names{odd}"), (NAMED_LINES, b"", 0)),
+        ("listed by a whole path", (here / f"dump{odd}", *GOOD), (LINES, b"", 0)),
+        ("that is not there", (f"none{odd}", *GOOD), (b"", os.fsencode(f"none{odd}: No such file or directory\n"), 2)),
+        ("of names that are not there", (f"dump{odd}", *GOOD, f"none{odd}"), (b"", os.fsencode(f"none{odd}: No such file or directory\n"), 2)),
+        ("that is too long", ("\udcff" * 4097, *GOOD), (b"", b"FILE's name is empty, or longer than 4096 bytes\n", 2)),
+    ):
+        done = run(here, *words, env=dict(os.environ, TMPDIR=str(room)))
+        check(f"a name of any bytes {what}", (done.stdout, done.stderr, done.returncode) == right and not state(room), (done, state(room)))
 
 
 def must_leave(what, here, done, error=None, out=b"", status=2):
@@ -894,7 +910,7 @@ with tempfile.TemporaryDirectory() as folder:
     for name, content in (("pump", PUMP), ("full", FULL), ("short", PUMP[:47]), ("names", LONG_NAMES)):
         (Path(folder) / name).write_bytes(content)
     for part in (plain, names_events, names_by_standard_input, says_refusals, by_standard_input, recipes, keeps_cells, not_printed, no_work_room,
-                 reader_leaves, mends, mends_over, mends_by_name, mends_nothing, mends_no_other, mended_not_printed, makes_names, makes_names_over,
+                 reader_leaves, mends, mends_over, mends_by_name, takes_any_bytes, mends_nothing, mends_no_other, mended_not_printed, makes_names, makes_names_over,
                  makes_no_names, make_names_help, help_text, builds, program_fails, mend_fails, mend_stopped):
         part(folder)
 print("\n".join(faults), end="\n" if faults else "", file=sys.stderr)
