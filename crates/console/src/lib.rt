@@ -2,7 +2,7 @@
 // it fails, and how many bytes changed.
 #![tactic(auto)]
 
-ghost use Rattle.std.specs.Prelude.{◌≡◌, cond, ◌+◌, ◌*◌, ◌≤◌, length, take, MatchResult, IsUtf8};
+ghost use Rattle.std.specs.Prelude.{◌≡◌, cond, ◌+◌, ◌*◌, ◌≤◌, length, take, MatchResult, IfOk, IsUtf8};
 ghost use Rattle.std.specs.Io.KnownBytes.{Consumes};
 ghost use Rattle.words.specs.Words.{word_at};
 ghost use Rattle.words.specs.declared.Order.TheVariants.{Little};
@@ -95,7 +95,9 @@ pub fn path_of(bytes: &[u8]) -> io::Result<&str>
 }
 
 // The file at a path, to be read.
-pub fn open_file(rt: &HostRuntime, path: &[u8]) -> io::Result<File> {
+pub fn open_file(rt: &HostRuntime, path: &[u8]) -> io::Result<File>
+    ensures { IfOk result (λ _. IsUtf8 path.now) }
+{
     File::open(rt, path_of(path)?)
 }
 

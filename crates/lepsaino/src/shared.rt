@@ -1,5 +1,5 @@
 // What the listing and mending share: an argument, a line that says what is wrong, a refusal as a line, and a file's bytes.
-ghost use Rattle.std.specs.Prelude.{IfOk};
+ghost use Rattle.std.specs.Prelude.{◌≡◌, ◌≤◌, ◌↔◌, [], ◌∷◌, IfOk, IsTrue};
 ghost use Rattle.lepsaino.specs.Files.{InSpace, Within};
 
 use console::{fail, open_file, print_refusal};
@@ -33,7 +33,9 @@ fn is_given(rt: &HostRuntime, i: usize) -> bool {
 }
 
 // How many arguments there are, the program's name among them; of more than seven it counts seven.
-pub(crate) fn argument_count(rt: &HostRuntime) -> usize {
+pub(crate) fn argument_count(rt: &HostRuntime) -> usize
+    ensures { result ≤ 7 }
+{
     for i in 0..7 {
         if !is_given(rt, i) {
             return i;
@@ -79,7 +81,9 @@ fn read_open<R: Read>(rt: &HostRuntime, file: &mut R, name: &[u8], space: &mut [
     }
 }
 
-pub(crate) fn is_dash(path: &[u8]) -> bool {
+pub(crate) fn is_dash(path: &[u8]) -> bool
+    ensures { IsTrue result ↔ (path.now ≡ 45 ∷ []) }
+{
     path == b"-".as_slice()
 }
 

@@ -1,5 +1,5 @@
 -- Each export has the contract of the call that it hands on to: what `interface` and its kin say of that call, they say of the export.
-use Rattle.std.proofs.Common.{◌≡◌, refl}
+use Rattle.std.proofs.Common.{◌≡◌, rules}
 use Rattle.lepsaino_c_c.proofs as exports
 use Rattle.lepsaino_c_c.specs.contracts as exports-contracts
 use Rattle.lepsaino_c.proofs as calls
@@ -69,70 +69,10 @@ pub record SameLearnt : Type 1 where
   pub lepsaino_mend : exports.lepsaino_mend.Reads.Learnt ≡ calls.lepsaino_mend.Reads.Learnt
 
 pub same_signatures : SameSignatures
-same_signatures = record {
-  lepsaino_check = refl;
-  lepsaino_begin = refl;
-  lepsaino_feed = refl;
-  lepsaino_finish = refl;
-  lepsaino_event = refl;
-  lepsaino_event_with_names = refl;
-  lepsaino_find_name = refl;
-  lepsaino_find_name_with_names = refl;
-  lepsaino_line = refl;
-  lepsaino_line_with_names = refl;
-  lepsaino_listing = refl;
-  lepsaino_listing_with_names = refl;
-  lepsaino_number = refl;
-  lepsaino_format = refl;
-  lepsaino_record = refl;
-  lepsaino_register = refl;
-  lepsaino_remove = refl;
-  lepsaino_write_name = refl;
-  lepsaino_mend = refl;
-}
+same_signatures = search rules
 
 pub same_asked : SameAsked
-same_asked = record {
-  lepsaino_check = refl;
-  lepsaino_begin = refl;
-  lepsaino_feed = refl;
-  lepsaino_finish = refl;
-  lepsaino_event = refl;
-  lepsaino_event_with_names = refl;
-  lepsaino_find_name = refl;
-  lepsaino_find_name_with_names = refl;
-  lepsaino_line = refl;
-  lepsaino_line_with_names = refl;
-  lepsaino_listing = refl;
-  lepsaino_listing_with_names = refl;
-  lepsaino_number = refl;
-  lepsaino_format = refl;
-  lepsaino_record = refl;
-  lepsaino_register = refl;
-  lepsaino_remove = refl;
-  lepsaino_write_name = refl;
-  lepsaino_mend = refl;
-}
+same_asked = search rules
 
 pub same_learnt : SameLearnt
-same_learnt = record {
-  lepsaino_check = refl;
-  lepsaino_begin = refl;
-  lepsaino_feed = refl;
-  lepsaino_finish = refl;
-  lepsaino_event = refl;
-  lepsaino_event_with_names = refl;
-  lepsaino_find_name = refl;
-  lepsaino_find_name_with_names = refl;
-  lepsaino_line = refl;
-  lepsaino_line_with_names = refl;
-  lepsaino_listing = refl;
-  lepsaino_listing_with_names = refl;
-  lepsaino_number = refl;
-  lepsaino_format = refl;
-  lepsaino_record = refl;
-  lepsaino_register = refl;
-  lepsaino_remove = refl;
-  lepsaino_write_name = refl;
-  lepsaino_mend = refl;
-}
+same_learnt = search rules

@@ -10,19 +10,16 @@ use Rattle.names.proofs.fit_some.Goals as goal
 
 pub put_quoted-requires : goal.put_quoted-requires
 put_quoted-requires c =
-    let s = c in
-    leb-true (length (name (some s.args.bytes.now))) (length s.args.out.now) (sym c.has_room.ensures ∙ c.if-has_room.true)
+    leb-true (length (name (some c.args.bytes.now))) (length c.args.out.now) (sym c.has_room.ensures ∙ c.if-has_room.true)
 
 pub returns-then-has_room : goal.returns-then-has_room
 returns-then-has_room c =
-    let s = c in
-    let text = name (some s.args.bytes.now) in
-    let out = s.args.out.now in
+    let text = name (some c.args.bytes.now) in
+    let out = c.args.out.now in
     put_fitted text (omega arith) (leb-true (length text) (length out) (sym c.has_room.ensures ∙ c.if-has_room.true)) c.put_quoted.ensures
 
 pub returns : goal.returns
 unfolding if_named
 returns c =
-    let s = c in
-    let text = name (some s.args.bytes.now) in
-    none_fitted text (leb-false (length text) (length s.args.out.now) (sym c.has_room.ensures ∙ c.if-has_room.false)) c.name_length.ensures
+    let text = name (some c.args.bytes.now) in
+    none_fitted text (leb-false (length text) (length c.args.out.now) (sym c.has_room.ensures ∙ c.if-has_room.false)) c.name_length.ensures

@@ -12,12 +12,10 @@ use Rattle.names.proofs.has_room.Goals as goal
 
 pub returns-then-room-bytes : goal.returns-then-room-bytes
 returns-then-room-bytes c =
-    let s = c in
-    let bytes = s.args.bytes.now in
-    sym (le-leb (length (name (some bytes))) s.args.room (omega (arith, count_name bytes, escaped_short bytes)))
+    let bytes = c.args.bytes.now in
+    sym (le-leb (length (name (some bytes))) c.args.room (omega (arith, count_name bytes, escaped_short bytes)))
 
 pub returns : goal.returns
 returns c =
-    let s = c in
-    let bytes = s.args.bytes.now in
-    rw (c.name_length.ensures, name_some true bytes refl) (leb_capped (length (name (some bytes))) s.args.room (omega arith))
+    let bytes = c.args.bytes.now in
+    rw (c.name_length.ensures, name_some true bytes refl) (leb_capped (length (name (some bytes))) c.args.room (omega arith))

@@ -6,10 +6,8 @@ use Rattle.names.proofs.name_length.Goals as goal
 
 pub returns-then-named : goal.returns-then-named
 returns-then-named c =
-    let s = c in
-    rw (name_some s.args.named s.args.bytes.now c.if-named.true, count_name) (omega (arith, c.escaped_length.ensures, c.sum.ensures))
+    rw (name_some c.args.named c.args.bytes.now c.if-named.true, count_name) (omega (arith, c.escaped_length.ensures, c.sum.ensures))
 
 pub returns : goal.returns
 returns c =
-    let s = c in
-    rw (name_none s.args.named s.args.bytes.now c.if-named.false) refl
+    rw (name_none c.args.named c.args.bytes.now c.if-named.false) refl

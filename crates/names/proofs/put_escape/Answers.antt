@@ -36,7 +36,7 @@ plain : (c : Else-b-eq92) → escape c.args.b ≡ c.args.b ∷ []
 plain c = escape_self c.args.b (omega arith) (omega arith) c.if-b-eq34.false c.if-b-eq92.false
 
 pub bounds-out-0 : goal.bounds-out-0
-bounds-out-0 c = let a = c in rw (plain c) at a.requires
+bounds-out-0 c = rw (plain c) at c.requires
 
 pub returns : goal.returns
-returns c = let a = c in rw (plain c) (stores (a.args.b ∷ []) a.args.out.now (rw (plain c) at a.requires))
+returns c = rw (plain c) (stores (c.args.b ∷ []) c.args.out.now (rw (plain c) at c.requires))

@@ -19,5 +19,4 @@ bounds-out-4 c = simp length-set (omega arith)
 
 pub returns : goal.returns
 returns c =
-    let s = c in
-    rw (c.hex_digit.ensures, c.hex_digit-2.ensures) (stores (hexed s.args.b) s.args.out.now s.requires)
+    rw (c.hex_digit.ensures, c.hex_digit-2.ensures) (stores (hexed c.args.b) c.args.out.now c.requires)

@@ -28,8 +28,7 @@ room table x out told long = rw (number_count table x) (ltb-false (length out) (
 
 pub returns-then-is_short : goal.returns-then-is_short
 returns-then-is_short c =
-    let s = c in
-    none_fitted (number_by s.args.pairs.now s.args.x) (rw (number_count s.args.pairs.now s.args.x) (ltb-true (length s.args.out.now) (length (number s.args.x)) (sym c.is_short.ensures ∙ c.if-is_short.true))) (omega (arith, c.number_length.ensures, number_count s.args.pairs.now s.args.x))
+    none_fitted (number_by c.args.pairs.now c.args.x) (rw (number_count c.args.pairs.now c.args.x) (ltb-true (length c.args.out.now) (length (number c.args.x)) (sym c.is_short.ensures ∙ c.if-is_short.true))) (omega (arith, c.number_length.ensures, number_count c.args.pairs.now c.args.x))
 
 pub put_low-requires : goal.put_low-requires
 put_low-requires c =

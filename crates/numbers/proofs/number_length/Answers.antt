@@ -6,13 +6,11 @@ use Rattle.numbers.proofs.number_length.Goals as goal
 
 pub returns-then-is_bare : goal.returns-then-is_bare
 returns-then-is_bare c =
-    let s = c in
-    rw (number_bare s.args.x (sym c.is_bare.ensures ∙ c.if-is_bare.true)) (omega (arith, c.digit_count-count.ensures, count_word s.args.x s.ranges.x.fits))
+    rw (number_bare c.args.x (sym c.is_bare.ensures ∙ c.if-is_bare.true)) (omega (arith, c.digit_count-count.ensures, count_word c.args.x c.ranges.x.fits))
 
 pub overflow_add-result : goal.overflow_add-result
 overflow_add-result c = omega (arith, c.digit_count-count.ensures, count_word c.args.x c.ranges.x.fits)
 
 pub returns : goal.returns
 returns c =
-    let s = c in
-    omega (arith, c.digit_count-count.ensures, count_word s.args.x s.ranges.x.fits, count_quoted s.args.x (sym c.is_bare.ensures ∙ c.if-is_bare.false))
+    omega (arith, c.digit_count-count.ensures, count_word c.args.x c.ranges.x.fits, count_quoted c.args.x (sym c.is_bare.ensures ∙ c.if-is_bare.false))

@@ -5,5 +5,4 @@ use Rattle.numbers.proofs.put_pair.Goals as goal
 
 pub returns : goal.returns
 returns c =
-    let s = c in
-    stores (pair_by s.args.pairs.now s.args.x) s.args.out.now s.requires.1
+    stores (pair_by c.args.pairs.now c.args.x) c.args.out.now c.requires.1

@@ -15,9 +15,8 @@ use Rattle.numbers.proofs.put_quoted.Goals.{After-slice_known-2-1}
 
 -- the quote and the digits, and the output as long as before
 opened : (c : After-slice_known-2-1)
-    → let s = c in
-    let old = s.args.out.now in
-    Put (ascii "\"" ++ digits_by s.args.pairs.now s.args.x) old (put_mid 1 (length (set old 0 34) - 1) (set old 0 34) c.put_long-at.new.out) (1 + c.put_long-at.result)
+    → let old = c.args.out.now in
+    Put (ascii "\"" ++ digits_by c.args.pairs.now c.args.x) old (put_mid 1 (length (set old 0 34) - 1) (set old 0 34) c.put_long-at.new.out) (1 + c.put_long-at.result)
 opened c = let old = c.args.out.now in on_from _ _ (stores (ascii "\"") old (omega arith)) c.put_long-at.ensures
 
 same : (c : After-slice_known-2-1) → let old = c.args.out.now in length (put_mid 1 (length (set old 0 34) - 1) (set old 0 34) c.put_long-at.new.out) ≡ length old

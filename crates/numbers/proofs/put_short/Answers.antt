@@ -16,10 +16,8 @@ returns-then-x-lt10 c =
 
 pub put_pair-requires : goal.put_pair-requires
 put_pair-requires c =
-    let s = c in
-    (s.requires.0, omega (arith, count_pair s.args.pairs.now s.args.x c.if-x-lt10.false s.requires.0))
+    (c.requires.0, omega (arith, count_pair c.args.pairs.now c.args.x c.if-x-lt10.false c.requires.0))
 
 pub returns : goal.returns
 returns c =
-    let s = c in
-    rw (by_pair s.args.pairs.now s.args.x c.if-x-lt10.false s.requires.0) c.put_pair.ensures
+    rw (by_pair c.args.pairs.now c.args.x c.if-x-lt10.false c.requires.0) c.put_pair.ensures

@@ -23,17 +23,15 @@ loop-i-smaller c = omega arith
 
 pub loop-i-preserved : goal.loop-i-preserved
 loop-i-preserved c =
-    let s = c in
     let l = c.loop-i in
-    (omega arith, simp length-set l.invariant.1, rw l.invariant.2 (copy_next s.args.bytes.now s.args.out.now l.i c.loop-i-test.true (omega arith)))
+    (omega arith, simp length-set l.invariant.1, rw l.invariant.2 (copy_next c.args.bytes.now c.args.out.now l.i c.loop-i-test.true (omega arith)))
 
 pub shape_of-out : goal.shape_of-out
 shape_of-out c = c.loop-i.invariant.1
 
 pub returns : goal.returns
 returns c =
-    let s = c in
     let l = c.loop-i in
-    let bytes = s.args.bytes.now in
+    let bytes = c.args.bytes.now in
     let all : l.i ≡ length bytes = omega arith in
-    put_all bytes s.args.out.now c.if-out-bytes.false record { count = all; bytes = l.invariant.2 ∙ rw (all, take-length bytes) }
+    put_all bytes c.args.out.now c.if-out-bytes.false record { count = all; bytes = l.invariant.2 ∙ rw (all, take-length bytes) }

@@ -25,7 +25,7 @@ unfolding if_given
 returns-then-given c =
     let a = c.args in
     let longest = c.longest in
-    rw c.if-given.true (c.index_all.ensures, most_with a.names.now longest.result longest.ensures.1, omega (arith, longest.ensures.0))
+    rw c.if-given.true (c.index_all.ensures, λ h s number pointer. omega (arith, most_with a.names.now longest.result longest.ensures.1 h s number pointer), omega (arith, longest.ensures.0))
 
 pub returns : goal.returns
 unfolding if_given
