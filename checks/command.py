@@ -464,19 +464,19 @@ def mends_by_name(folder):
 
 
 def takes_any_bytes(folder):
-    """A name that is not UTF-8 is taken and told as any other, and nothing stays of how it goes to the program."""
-    odd = os.fsdecode(b"\xe4 \xff")
-    here, room = place(folder, **{f"dump{odd}": PUMP, f"names{odd}": NAMES}), place(folder)
-    for what, words, right in (
-        ("listed", (f"dump{odd}", *GOOD), (LINES, b"", 0)),
-        ("listed with names", (f"dump{odd}", *GOOD, f"names{odd}"), (NAMED_LINES, b"", 0)),
-        ("listed by a whole path", (here / f"dump{odd}", *GOOD), (LINES, b"", 0)),
-        ("that is not there", (f"none{odd}", *GOOD), (b"", os.fsencode(f"none{odd}: No such file or directory\n"), 2)),
-        ("of names that are not there", (f"dump{odd}", *GOOD, f"none{odd}"), (b"", os.fsencode(f"none{odd}: No such file or directory\n"), 2)),
-        ("that is too long", ("\udcff" * 4097, *GOOD), (b"", b"FILE's name is empty, or longer than 4096 bytes\n", 2)),
-    ):
-        done = run(here, *words, env=dict(os.environ, TMPDIR=str(room)))
-        check(f"a name of any bytes {what}", (done.stdout, done.stderr, done.returncode) == right and not state(room), (done, state(room)))
+    """A name that is not UTF-8 is taken and told as any other, and nothing stays of how it goes to the program; the second is above the last character."""
+    for odd in map(os.fsdecode, (b"\xe4 \xff", b"\xf4\x90\x80\x80")):
+        here, room = place(folder, **{f"dump{odd}": PUMP, f"names{odd}": NAMES}), place(folder)
+        for what, words, right in (
+            ("listed", (f"dump{odd}", *GOOD), (LINES, b"", 0)),
+            ("listed with names", (f"dump{odd}", *GOOD, f"names{odd}"), (NAMED_LINES, b"", 0)),
+            ("listed by a whole path", (here / f"dump{odd}", *GOOD), (LINES, b"", 0)),
+            ("that is not there", (f"none{odd}", *GOOD), (b"", os.fsencode(f"none{odd}: No such file or directory\n"), 2)),
+            ("of names that are not there", (f"dump{odd}", *GOOD, f"none{odd}"), (b"", os.fsencode(f"none{odd}: No such file or directory\n"), 2)),
+            ("that is too long", ("\udcff" * 4097, *GOOD), (b"", b"FILE's name is empty, or longer than 4096 bytes\n", 2)),
+        ):
+            done = run(here, *words, env=dict(os.environ, TMPDIR=str(room)))
+            check(f"a name of any bytes {what}", (done.stdout, done.stderr, done.returncode) == right and not state(room), (done, state(room)))
 
 
 def must_leave(what, here, done, error=None, out=b"", status=2):
