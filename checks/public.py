@@ -12,9 +12,7 @@ HANDED_ON = CRATES / "lepsaino_c_c/proofs/Handed.antt"
 
 # What these print, read or open is not in the logic, nor the words of an error of std, so no contract could settle it.
 EXCEPTIONS = {
-    ("console", "print_space"): "prints",
-    ("console", "print_refusal"): "prints",
-    ("console", "print_front"): "prints",
+    ("console", "print_bytes"): "prints",
     ("console", "fail"): "prints",
     ("console", "open_file"): "opens a file",
     ("console", "path_of"): "gives an error of std where bytes are no path",

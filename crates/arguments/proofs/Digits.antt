@@ -1,30 +1,28 @@
 -- A number read digit by digit: what is left of the text goes on from the value so far, which never falls.
+use Rattle.std.specs.Prelude.{None, Some}
+use Rattle.std.specs.Char.{is_ascii_digit}
 use Prim.Native.Nat.{ℕ, suc, ◌+◌, ◌-◌, ◌*◌, ◌≤◌, ◌<◌}
-use mathlib.Core.Bool.{Bool, true, false, cond, ◌&&◌, and-false, true≢false}
+use mathlib.Core.Bool.{true, false, ◌&&◌, and-false}
 use mathlib.Core.List.{List, [], ◌∷◌}
 use mathlib.Core.Path.{◌≡◌, refl, sym}
 use native.Mathlib.Numerals.{add-one}
 use native.Mathlib.Omega.{arith}
-use borrow.Author.Tests.{le-leb, leb-true, lt-leb}
+use borrow.Author.Tests.{le-leb, lt-leb}
 use lib.Dec.{leb}
 use lib.ListN.{length, drop, get_or, drop_of_length-le}
 use lib.Seq.{drop-cons}
 use Rattle.text.specs.ReadBack.{decimal, decimal_after}
-use Rattle.arguments.specs.Arguments.{AtMost, all_digits, argument_of, is_digit}
-use Rattle.arguments.specs.declared.Argument.TheVariants.{Number, Wrong}
-
-both_true : (a b : Bool) → (a && b) ≡ true → (a ≡ true) × (b ≡ true)
-both_true true b e = (refl, e)
-both_true false b e = absurd (true≢false (sym e))
+use Rattle.arguments.specs.Arguments.{all_digits, argument_of, is_digit}
 
 after_least : (n : ℕ) (ds : List ℕ) → n ≤ decimal_after n ds
 unfolding decimal_after
 after_least n [] = omega arith
 after_least n (d ∷ ds) = omega (arith, after_least (n * 10 + (d - 48)) ds)
 
-pub digit_range : (b : ℕ) → is_digit b ≡ true → (48 ≤ b) × (b ≤ 57)
+-- std has the same test
+std_digit : (b : ℕ) → is_ascii_digit b ≡ is_digit b
 unfolding is_digit
-digit_range b e = let both = both_true (leb 48 b) (leb b 57) e in (leb-true 48 b both.0, leb-true b 57 both.1)
+std_digit b = grind (arith)
 
 -- how far the reading has come: the value so far, and the rest of the text, tell all
 pub record SoFar (text : List ℕ) (value i : ℕ) : Type 0 where
@@ -37,20 +35,23 @@ begun text = record { number = refl; digits = refl }
 
 module _ (text : List ℕ) (most : ℕ) where
   -- the three ways to be wrong, and the one to be right
-  pub wrong_empty : length text ≡ 0 → Wrong ≡ argument_of text most
+  pub wrong_empty : length text ≡ 0 → None ≡ argument_of text most
   unfolding argument_of
   wrong_empty none = rw (lt-leb 1 (length text) (omega arith))
 
-  wrong_digits : all_digits text ≡ false → Wrong ≡ argument_of text most
+  wrong_digits : all_digits text ≡ false → None ≡ argument_of text most
   unfolding argument_of
   wrong_digits other = rw (other, and-false (leb 1 (length text)))
 
-  wrong_large : most < decimal text → Wrong ≡ argument_of text most
+  wrong_large : most < decimal text → None ≡ argument_of text most
   unfolding argument_of
   wrong_large large = rw (lt-leb (decimal text) most large, and-false (leb 1 (length text) && all_digits text))
 
   module _ (value i : ℕ) (so : SoFar text value i) where
-    pub right : 1 ≤ length text → length text ≤ i → value ≤ most → Number value ≡ argument_of text most
+    pub too_large : most < value → None ≡ argument_of text most
+    too_large large = wrong_large (omega (arith, after_least value (drop i text), so.number))
+
+    pub right : 1 ≤ length text → length text ≤ i → value ≤ most → Some value ≡ argument_of text most
     unfolding argument_of decimal_after all_digits
     right some ended small =
         let rest : drop i text ≡ [] = drop_of_length-le text {i = i} ended in
@@ -70,21 +71,11 @@ module _ (text : List ℕ) (most : ℕ) where
       unfolding all_digits
       digits_onward = rw (drop-cons text i 0 more) at so.digits
 
-      pub not_digit : is_digit (get_or text i 0) ≡ false → Wrong ≡ argument_of text most
-      not_digit other = wrong_digits (rw other at (sym digits_onward))
+      pub not_digit : is_ascii_digit (get_or text i 0) ≡ false → None ≡ argument_of text most
+      not_digit other = wrong_digits (rw (← std_digit (get_or text i 0), other) at (sym digits_onward))
 
-      pub too_large : most < next → Wrong ≡ argument_of text most
-      too_large large = wrong_large (omega (arith, after_least next (drop (suc i) text), onward))
+      pub next_too_large : most < next → None ≡ argument_of text most
+      next_too_large large = wrong_large (omega (arith, after_least next (drop (suc i) text), onward))
 
-      pub one_more : is_digit (get_or text i 0) ≡ true → SoFar text next (i + 1)
-      one_more digit = rw add-one record { number = onward; digits = rw digit at digits_onward }
-
--- an argument is at most what it may be
-pub within_most : (text : List ℕ) (most : ℕ) → AtMost (argument_of text most) most
-unfolding argument_of
-within_most text most = by (leb 1 (length text) && all_digits text) (leb (decimal text) most) refl
-  where
-    by : (front small : Bool) → leb (decimal text) most ≡ small → AtMost (cond (front && small) (Number (decimal text)) Wrong) most
-    by true true e = leb-true (decimal text) most e
-    by true false e = tt
-    by false small e = tt
+      pub one_more : is_ascii_digit (get_or text i 0) ≡ true → SoFar text next (i + 1)
+      one_more digit = rw add-one record { number = onward; digits = rw (← std_digit (get_or text i 0), digit) at digits_onward }

@@ -2,44 +2,22 @@
 #![tactic(auto)]
 
 ghost use Rattle.std.specs.Prelude.{◌≡◌};
-ghost use Rattle.arguments.specs.Arguments.{argument_of, is_digit};
-
-// A decimal number of its range, or something else.
-#[derive(Clone, Copy)]
-pub enum Argument {
-    Wrong,
-    Number(u64),
-}
-
-fn is_digit(b: u8) -> bool
-    ensures { result ≡ is_digit b }
-{
-    rows::both(b'0' <= b, b <= b'9')
-}
+ghost use Rattle.arguments.specs.Arguments.{argument_of};
 
 // The number that digits stand for, if there are some, and it is at most so much.
-pub fn number_in(text: &[u8], most: u64) -> Argument
+#[tactic(auto, using(crate::proofs::Digits::begun, crate::proofs::Digits::not_digit, crate::proofs::Digits::next_too_large, crate::proofs::Digits::wrong_empty, crate::proofs::Digits::too_large, crate::proofs::Digits::right))]
+pub fn number_in(text: &[u8], most: u64) -> Option<u64>
     ensures { result ≡ argument_of text.now most }
 {
-    if text.len() == 0 {
-        return Argument::Wrong;
-    }
     let mut value = 0u64;
-    let mut i = 0;
-    while i < text.len() {
-        let b = text[i];
-        if !is_digit(b) {
-            return Argument::Wrong;
+    for b in text {
+        if !b.is_ascii_digit() {
+            return None;
         }
-        let digit = (b - b'0') as u64;
-        if digit > most {
-            return Argument::Wrong;
-        }
-        if value > (most - digit) / 10 {
-            return Argument::Wrong;
-        }
-        value = value * 10 + digit;
-        i += 1;
+        value = value.checked_mul(10)?.checked_add(u64::from(*b - b'0'))?;
     }
-    Argument::Number(value)
+    if text.is_empty() || value > most {
+        return None;
+    }
+    Some(value)
 }

@@ -2,10 +2,7 @@
 #![tactic(auto)]
 
 fn main(rt: HostRuntime) {
-    replies::answer_file(&rt, b"check");
-    replies::answer_file(&rt, b"pieces");
-    replies::answer_file(&rt, b"reader");
-    replies::answer_file(&rt, b"writer");
-    replies::answer_file(&rt, b"mender");
-    replies::answer_file(&rt, b"names");
+    for path in ["check", "pieces", "reader", "writer", "mender", "names"] {
+        replies::answer_file(&rt, path.as_bytes());
+    }
 }

@@ -1,2 +1,1 @@
 pub mod Changed
-pub mod Counts

@@ -1,19 +1,17 @@
 -- What a contract says of a call is what the demands speak of.
+use mathlib.Core.Path.{◌∙◌}
+use Rattle.naming.proofs.Finding.{without_file}
 use Rattle.contracts.specs.Calls.{Calls}
 
 pub calls : Calls
 calls = record {
   check = λ κs a p. p.allowed;
-  find_name = λ κs a p. p.allowed;
-  find_name_with_names = λ κs a p. p.allowed;
+  find_name = λ κs a p. (p.allowed, λ none. rw none at p.allowed ∙ without_file _ _);
   found_part = λ κs a p. p.allowed;
   name_part = λ κs a p. p.allowed;
   event = λ κs a p. p.allowed;
-  event_with_names = λ κs a p. p.allowed;
   line = λ κs a p. p.allowed;
-  line_with_names = λ κs a p. p.allowed;
   listing = λ κs a p. p.allowed;
-  listing_with_names = λ κs a p. p.allowed;
   format = λ κs a p. p.allowed;
   «record» = λ κs a p. p.allowed;
   register = λ κs a p. p.allowed;

@@ -1,4 +1,7 @@
 -- What the demands say of the definitions holds of what the contracts allow.
+use Rattle.std.specs.Prelude.{Ok, Result}
+use Rattle.rows.specs.Told.{number_told}
+use Rattle.rows.specs.declared.Refusal.{Refusal}
 use Prim.Native.Nat.{ℕ, ◌^◌, ◌≤◌, ◌<◌}
 use mathlib.Core.List.{List}
 use mathlib.Core.Path.{◌≡◌, sym, ap, ◌∙◌}
@@ -10,37 +13,31 @@ use Rattle.demands.proofs.JsonNumbers.{one_line_numbers, one_name, one_number}
 use Rattle.demands.specs.Demands.{Writes}
 use Rattle.demands.specs.JsonNumbers.{json_numbers}
 use Rattle.demands.specs.Refusals.{RefusesAndKeeps}
-use Rattle.events.specs.Listing.{Gave, listed_told}
-use Rattle.events.specs.declared.Listed.TheVariants.{Written}
-use Rattle.lepsaino_c.specs.Answers.{GaveNumbers, listed_answer}
+use Rattle.events.specs.Listing.{Gave}
+use Rattle.lepsaino_c.specs.Answers.{GaveNumbers, number_answer}
 use Rattle.lepsaino_c.specs.declared.answers.Answer.{Answer}
 use Rattle.lines.proofs.Pairs.{line-by}
 use Rattle.numbers.proofs.Alike.{number_by_lem}
 use Rattle.rows.specs.Rows.{Accepted, Row}
 use Rattle.text.proofs.Output.{fitted_all, fitted_same, is_put, some_said}
 use Rattle.text.specs.Output.{Fitted, Put, printed}
-use Rattle.writing.specs.Writing.{Change, filing, formatting, outcome_told, recording, registering, removing}
-use Rattle.writing.specs.declared.Outcome.{Outcome}
+use Rattle.writing.specs.Writing.{Change, filing, formatting, recording, registering, removing}
 use Rattle.contracts.specs.Calls.{Changed}
 use Rattle.contracts.specs.Demands.{CallsRefuse, NumbersLeave}
 use Rattle.contracts.proofs.Calls.{calls}
 use Rattle.contracts.proofs.Interface.{zero_accepts}
 
-changed_writes : (change : List ℕ → Change) (old new : List ℕ) (x : Outcome) → Writes (change old) old → Changed change old new x
-    → RefusesAndKeeps (change old).rows old new (outcome_told x)
+changed_writes : (change : List ℕ → Change) (old new : List ℕ) (x : Result ℕ Refusal) → Writes (change old) old → Changed change old new x
+    → RefusesAndKeeps (change old).rows old new (number_told x)
 changed_writes change old new x writes did = (rw did.0 writes.0, λ some. did.1 ∙ writes.1 (rw did.0 at some))
 
 pub calls_refuse : CallsRefuse
 calls_refuse = record {
   check = λ κs a p. rw (calls.check κs a p) (demands.first.checking _);
-  find_name = λ κs a p. rw (calls.find_name κs a p) (demands.first.finding _ _);
-  find_name_with_names = λ κs a p. rw (calls.find_name_with_names κs a p) (demands.first.finding_with _ _ _);
+  find_name = λ κs a p. rw (calls.find_name κs a p).0 (demands.first.finding_with _ _ _);
   event = λ κs a p. rw (calls.event κs a p) (demands.first.event _ _ _);
-  event_with_names = λ κs a p. rw (calls.event_with_names κs a p) (demands.first.event _ _ _);
   line = λ κs a p. demands.first.line _ _ _ _ _ _ _ (calls.line κs a p);
-  line_with_names = λ κs a p. demands.first.line _ _ _ _ _ _ _ (calls.line_with_names κs a p);
   listing = λ κs a p. demands.first.listing _ _ _ _ _ _ (calls.listing κs a p);
-  listing_with_names = λ κs a p. demands.first.listing _ _ _ _ _ _ (calls.listing_with_names κs a p);
   format = λ κs a p. changed_writes (formatting a.1.0) _ _ _ (demands.first.formatting _ _) (calls.format κs a p);
   «record» = λ κs a p. changed_writes (recording a.1.0) _ _ _ (demands.first.recording _ _) (calls.«record» κs a p);
   register = λ κs a p. changed_writes (registering a.1.0 a.1.1.0.now) _ _ _ (demands.first.registering _ _ _) (calls.register κs a p);
@@ -69,17 +66,15 @@ fitted_front text old new n fitted room short =
 
 -- what a line or a listing for C has written, where it was accepted
 handed : (rows : List Row) (text old new : List ℕ) (x : Answer) → Accepted rows → GaveNumbers rows text old new x
-    → Gave rows text old new (Written (length text)) × (x.value ≡ length text)
-unfolding listed_answer listed_told
+    → Gave rows text old new (Ok (length text)) × (x.value ≡ length text)
+unfolding number_answer number_told
 handed rows text old new x passed gave =
     (rw passed at gave.gave, ap (λ (answer : Answer). answer.value) (rw passed at gave.answered))
 
 pub numbers_leave : NumbersLeave
 numbers_leave = record {
   line = λ κs a p n written. demands.second.line_numbers _ _ _ _ _ _ n (rw written at (calls.line κs a p));
-  line_with_names = λ κs a p n written. demands.second.line_numbers _ _ _ _ _ _ n (rw written at (calls.line_with_names κs a p));
   listing = λ κs a p n written. demands.second.numbers _ _ _ _ _ n (rw written at (calls.listing κs a p));
-  listing_with_names = λ κs a p n written. demands.second.numbers _ _ _ _ _ n (rw written at (calls.listing_with_names κs a p));
   put_line = λ κs a p some. ap json_numbers (front _ _ _ _ p.allowed some) ∙ one_line_numbers _ _ _;
   put_number = λ κs a p some. ap json_numbers (front _ _ _ _ p.allowed some) ∙ one_number _;
   put_name = λ κs a p some. ap json_numbers (front _ _ _ _ p.allowed some) ∙ one_name _;

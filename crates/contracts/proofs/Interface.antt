@@ -1,9 +1,10 @@
 -- A call for C hands on: its answer is settled as the library's is, and its number is the one that is told, so 0 is that of a call whose rows have passed.
+use Rattle.std.specs.Prelude.{Err, None, Ok, Option, Result, Some}
+use Rattle.events.specs.declared.Event.{Event}
 use Prim.Native.Nat.{ℕ, ◌+◌, ◌≤◌}
 use mathlib.Core.Bool.{Bool, cond, true, false}
 use mathlib.Core.List.{List, [], ◌∷◌, ◌++◌}
 use mathlib.Core.Logic.{◌⊎◌, inl, inr}
-use mathlib.Core.Option.{none, some}
 use mathlib.Core.Path.{◌≡◌, refl, sym, ap, ◌∙◌}
 use native.Mathlib.Omega.{arith}
 use borrow.Author.Tests.{ne_eqb}
@@ -14,10 +15,7 @@ use Rattle.demands.specs.Demands.{Writes}
 use Rattle.demands.specs.Names.{LiesThere, LiesWithin, name_shown}
 use Rattle.demands.specs.Refusals.{RefusesAndKeeps, Unbroken}
 use Rattle.events.specs.Events.{event_numbers, event_of, shown_told, slot_numbers}
-use Rattle.events.specs.Listing.{listed_by, listed_told}
-use Rattle.events.specs.declared.Shown.{Shown}
-use Rattle.events.specs.declared.Shown.TheVariants as shown
-use Rattle.lepsaino_c.specs.Answers.{GaveNumbers, answer_of, check_answer, event_answer, event_answer_of, format_given, listed_answer, mend_answer, name_answer, order_given, outcome_answer, subject_given}
+use Rattle.lepsaino_c.specs.Answers.{GaveNumbers, answer_of, check_answer, event_answer, event_answer_of, format_given, number_answer, mend_answer, name_answer, order_given, subject_given}
 use Rattle.lepsaino_c.specs.declared.answers.Answer.{Answer}
 use Rattle.mending.specs.Mending.{mend_of, mended_told}
 use Rattle.naming.specs.Finding.{find_name_with}
@@ -26,21 +24,19 @@ use Rattle.naming.specs.declared.Sought.TheVariants.{Naming}
 use Rattle.naming.specs.declared.Subject.{Subject}
 use Rattle.naming.specs.declared.Subject.TheVariants as subject
 use Rattle.pieces.specs.Pieces.{finished}
-use Rattle.rows.specs.Rows.{Accepted, Row, first_broken}
-use Rattle.rows.specs.Told.{told_refusal, told_values}
+use Rattle.rows.specs.Rows.{Accepted, Row, first_broken, answer_by}
+use Rattle.rows.specs.Told.{told_refusal, told_values, number_told}
 use Rattle.rows.specs.declared.Refusal.{Refusal}
 use Rattle.trace.specs.Check.{check_of, checked_told, header_numbers, order_number}
 use Rattle.trace.specs.Names.{find_name, found_told, kind_number, name_found, name_numbers}
-use Rattle.trace.specs.declared.Found.{Found}
-use Rattle.trace.specs.declared.Found.TheVariants as found
+use Rattle.trace.specs.declared.Name.TheVariants.{Filed, Named}
 use Rattle.trace.specs.declared.Name.{Name}
-use Rattle.trace.specs.declared.Name.TheVariants.{Filed, Named, Nameless}
 use Rattle.trace.specs.declared.Slot.{Slot}
 use Rattle.trace.specs.declared.ThreadKind.TheVariants.{Gone, Live}
 use Rattle.words.specs.Each.{Each}
 use Rattle.words.specs.declared.Order.{Order}
 use Rattle.words.specs.declared.Order.TheVariants.{Big, Little}
-use Rattle.writing.specs.Writing.{Change, filing, formatting, left, outcome_told, recording, registering, removing, said}
+use Rattle.writing.specs.Writing.{Change, filing, formatting, left, recording, registering, removing, said}
 use Rattle.contracts.proofs.Public.{equation, leaves}
 use Rattle.contracts.specs.Interface.{Interface, InterfaceGives, InterfaceRefuses, NamesWithin, Structs, TellsAndKeeps, Untitled, ZeroAccepts, event_struct, lying_by}
 
@@ -90,25 +86,25 @@ interface_gives = record {
   mend = λ κs a p. (_, p.allowed.0, (refl, p.allowed.1));
 }
 
-changed_tells : (change : List ℕ → Change) (old new : List ℕ) (x : Answer) → Writes (change old) old → x ≡ outcome_answer (said (change old)) → new ≡ left (change old) old
+changed_tells : (change : List ℕ → Change) (old new : List ℕ) (x : Answer) → Writes (change old) old → x ≡ number_answer (said (change old)) → new ≡ left (change old) old
     → TellsAndKeeps answer_of (change old).rows old new x
-unfolding outcome_answer
-changed_tells change old new x writes told kept = (outcome_told (said (change old)), told, (writes.0, λ some. kept ∙ writes.1 some))
+unfolding number_answer
+changed_tells change old new x writes told kept = (number_told (said (change old)), told, (writes.0, λ some. kept ∙ writes.1 some))
 
-printed_tells : (rows : List Row) (text old new : List ℕ) (x : Answer) → RefusesAndKeeps rows old new (listed_told (listed_by (first_broken rows) (length text)))
+printed_tells : (rows : List Row) (text old new : List ℕ) (x : Answer) → RefusesAndKeeps rows old new (number_told (answer_by (first_broken rows) (length text)))
     → GaveNumbers rows text old new x → TellsAndKeeps answer_of rows old new x
-unfolding listed_answer
-printed_tells rows text old new x keeps gave = (listed_told (listed_by (first_broken rows) (length text)), gave.answered, keeps)
+unfolding number_answer
+printed_tells rows text old new x keeps gave = (number_told (answer_by (first_broken rows) (length text)), gave.answered, keeps)
 
 pub interface_refuses : InterfaceRefuses
 unfolding check_answer event_answer name_answer mend_answer
 interface_refuses = record {
   check = λ κs a p. (checked_told (check_of a.0.now), p.allowed, first_demand.checking _);
   finish = λ κs a p. (checked_told (finished a.0), p.allowed, first_demand.finishing _);
-  event = λ κs a p. (shown_told (event_of none a.0.now a.1.0), p.allowed, first_demand.event _ _ _);
-  event_with_names = λ κs a p. (shown_told (event_of (some a.1.0.now) a.0.now a.1.1.0), p.allowed, first_demand.event _ _ _);
+  event = λ κs a p. (shown_told (event_of None a.0.now a.1.0), p.allowed, first_demand.event _ _ _);
+  event_with_names = λ κs a p. (shown_told (event_of (Some a.1.0.now) a.0.now a.1.1.0), p.allowed, first_demand.event _ _ _);
   find_name = λ κs a p. (found_told (find_name a.0.now a.1.0), p.allowed, first_demand.finding _ _);
-  find_name_with_names = λ κs a p. (found_told (find_name_with (some a.1.0.now) a.0.now a.1.1.0), p.allowed, first_demand.finding_with _ _ _);
+  find_name_with_names = λ κs a p. (found_told (find_name_with (Some a.1.0.now) a.0.now a.1.1.0), p.allowed, first_demand.finding_with _ _ _);
   line = λ κs a p. printed_tells _ _ _ _ _ (first_demand.line _ _ _ _ _ _ _ p.allowed.gave) p.allowed;
   line_with_names = λ κs a p. printed_tells _ _ _ _ _ (first_demand.line _ _ _ _ _ _ _ p.allowed.gave) p.allowed;
   listing = λ κs a p. printed_tells _ _ _ _ _ (first_demand.listing _ _ _ _ _ _ p.allowed.gave) p.allowed;
@@ -130,20 +126,20 @@ order_back Big = refl
 order_back Little = refl
 
 -- an event tells three numbers of each of its names, one behind the other
-given_told : (slot : Slot) (ticks context : ℕ) (name title : Name)
+given_told : (slot : Slot) (ticks context : ℕ) (name title : Option Name)
     → event_answer_of (told_values (slot_numbers slot ++ (ticks ∷ context ∷ name_numbers name ++ name_numbers title)))
-    ≡ event_struct slot ticks context (name_answer (found.Searched name)) (name_answer (found.Searched title))
+    ≡ event_struct slot ticks context (name_answer (Ok name)) (name_answer (Ok title))
 unfolding slot_numbers name_answer found_told name_numbers
-given_told slot ticks context Nameless title = refl
-given_told slot ticks context (Named kind at size) title = refl
-given_told slot ticks context (Filed at size) title = refl
+given_told slot ticks context None title = refl
+given_told slot ticks context (Some (Named kind at size)) title = refl
+given_told slot ticks context (Some (Filed at size)) title = refl
 
 any_other : (n : ℕ) → (n ≡ 0 → ⊥) → subject_given n ≡ subject.Thread
 unfolding subject_given
 any_other n other = rw (ne_eqb n 0 other)
 
 pub structs : Structs
-unfolding check_answer event_answer name_answer listed_answer outcome_answer mend_answer checked_told shown_told found_told listed_told outcome_told mended_told header_numbers event_numbers slot_numbers kind_number name_numbers subject_given
+unfolding check_answer event_answer name_answer number_answer mend_answer checked_told shown_told found_told number_told mended_told header_numbers event_numbers slot_numbers kind_number name_numbers subject_given
 structs = record {
   answer = λ f. refl;
   name = λ f. refl;
@@ -171,7 +167,7 @@ all_passed [] kept = refl
 all_passed (r ∷ rows) kept = rw kept.0 (all_passed rows kept.1)
 
 pub zero_accepts : ZeroAccepts
-unfolding check_answer event_answer name_answer listed_answer outcome_answer mend_answer
+unfolding check_answer event_answer name_answer number_answer mend_answer
 zero_accepts = record {
   check = λ s none. all_passed _ ((first_demand.checking s).zero none).2;
   finish = λ p none. all_passed _ ((first_demand.finishing p).zero none).2;
@@ -190,88 +186,88 @@ zero_accepts = record {
   mend = λ s old none. all_passed _ ((first_demand.mending s old).0.zero none).2;
 }
 
-refused_told : (f : Refusal) → event_answer (shown.Refused f) ≡ event_answer_of (told_refusal f)
+refused_told : (f : Refusal) → event_answer (Err f) ≡ event_answer_of (told_refusal f)
 unfolding event_answer shown_told
 refused_told f = refl
 
 -- a name of the file, or none, as it is told
-abbrev InFile : List ℕ → Name → Type 0
+abbrev InFile : List ℕ → Option Name → Type 0
 InFile f name =
-    let x = name_answer (found.Searched name) in
+    let x = name_answer (Ok name) in
     ((x.kind ≡ 3) × (x.at + x.length ≤ length f)) ⊎ ((x.kind ≡ 0) × (x.at ≡ 0) × (x.length ≡ 0))
 
 module _ (s : List ℕ) where
   -- where a name is told, or none, its place and length are those of the name
-  told_within : (name : Name) → LiesWithin name s → (name_answer (found.Searched name)).at + (name_answer (found.Searched name)).length ≤ length s
+  told_within : (name : Option Name) → LiesWithin name s → (name_answer (Ok name)).at + (name_answer (Ok name)).length ≤ length s
   unfolding name_answer found_told name_numbers
-  told_within Nameless within = within
-  told_within (Named kind at size) within = within
-  told_within (Filed at size) within = within
+  told_within None within = within
+  told_within (Some (Named kind at size)) within = within
+  told_within (Some (Filed at size)) within = within
 
   -- without a file none lies in one
-  in_dump : (name : Name) → LiesThere none s name → LiesWithin name s
-  in_dump Nameless within = within
-  in_dump (Named kind at size) within = within
-  in_dump (Filed at size) within = omega (arith, within)
+  in_dump : (name : Option Name) → LiesThere None s name → LiesWithin name s
+  in_dump None within = within
+  in_dump (Some (Named kind at size)) within = within
+  in_dump (Some (Filed at size)) within = omega (arith, within)
 
   -- with one, its kind says where it lies
-  told_there : (f : List ℕ) (name : Name) → LiesThere (some f) s name
-      → let x = name_answer (found.Searched name) in
+  told_there : (f : List ℕ) (name : Option Name) → LiesThere (Some f) s name
+      → let x = name_answer (Ok name) in
       x.at + x.length ≤ length (lying_by x.kind f s)
   unfolding name_answer found_told name_numbers kind_number
-  told_there f Nameless within = within
-  told_there f (Named Live at size) within = within
-  told_there f (Named Gone at size) within = within
-  told_there f (Filed at size) within = within
+  told_there f None within = within
+  told_there f (Some (Named Live at size)) within = within
+  told_there f (Some (Named Gone at size)) within = within
+  told_there f (Some (Filed at size)) within = within
 
   -- and a record's name is the file's
-  in_file : (f : List ℕ) (subject : Subject) (number : ℕ) → LiesThere (some f) s (record_name subject f number) → InFile f (record_name subject f number)
+  in_file : (f : List ℕ) (subject : Subject) (number : ℕ) → LiesThere (Some f) s (record_name subject f number) → InFile f (record_name subject f number)
   unfolding record_name name_answer found_told name_numbers
   in_file f subject number = by (has_record (Naming subject number) f) (record_at f (first_record (Naming subject number) f))
     where
-      by : (has : Bool) (at : ℕ) → LiesThere (some f) s (cond has (name_at f at) Nameless) → InFile f (cond has (name_at f at) Nameless)
+      by : (has : Bool) (at : ℕ) → LiesThere (Some f) s (cond has (Some (name_at f at)) None) → InFile f (cond has (Some (name_at f at)) None)
       by true at within = inl (refl, within)
       by false at within = inr (refl, refl, refl)
 
-  found_within : (x : Found) → LiesWithin (name_found x) s → (name_answer x).at + (name_answer x).length ≤ length s
+  found_within : (x : Result (Option Name) Refusal) → LiesWithin (name_found x) s → (name_answer x).at + (name_answer x).length ≤ length s
   unfolding name_answer found_told
-  found_within (found.Refused f) within = omega arith
-  found_within (found.Searched name) within = told_within name within
+  found_within (Err f) within = omega arith
+  found_within (Ok name) within = told_within name within
 
-  found_there : (f : List ℕ) (x : Found) → LiesThere (some f) s (name_found x) → (name_answer x).at + (name_answer x).length ≤ length (lying_by (name_answer x).kind f s)
+  found_there : (f : List ℕ) (x : Result (Option Name) Refusal) → LiesThere (Some f) s (name_found x) → (name_answer x).at + (name_answer x).length ≤ length (lying_by (name_answer x).kind f s)
   unfolding name_answer found_told
-  found_there f (found.Refused fault) within = omega arith
-  found_there f (found.Searched name) within = told_there f name within
+  found_there f (Err fault) within = omega arith
+  found_there f (Ok name) within = told_there f name within
 
-  event_within : (x : Shown) → LiesThere none s (name_shown x) → (event_answer x).name_at + (event_answer x).name_length ≤ length s
-  event_within (shown.Refused f) within = rw (refused_told f) (omega arith)
-  event_within (shown.Given e) within = rw (structs.given e) (told_within e.name (in_dump e.name within))
+  event_within : (x : Result Event Refusal) → LiesThere None s (name_shown x) → (event_answer x).name_at + (event_answer x).name_length ≤ length s
+  event_within (Err f) within = rw (refused_told f) (omega arith)
+  event_within (Ok e) within = rw (structs.given e) (told_within e.name (in_dump e.name within))
 
-  event_there : (f : List ℕ) (x : Shown) → LiesThere (some f) s (name_shown x)
+  event_there : (f : List ℕ) (x : Result Event Refusal) → LiesThere (Some f) s (name_shown x)
       → (event_answer x).name_at + (event_answer x).name_length ≤ length (lying_by (event_answer x).name_kind f s)
-  event_there f (shown.Refused fault) within = rw (refused_told fault) (omega arith)
-  event_there f (shown.Given e) within = rw (structs.given e) (told_there f e.name within)
+  event_there f (Err fault) within = rw (refused_told fault) (omega arith)
+  event_there f (Ok e) within = rw (structs.given e) (told_there f e.name within)
 
-  titled : (f : List ℕ) (position : ℕ) (shown : Shown) → event_of (some f) s position ≡ shown
+  titled : (f : List ℕ) (position : ℕ) (shown : Result Event Refusal) → event_of (Some f) s position ≡ shown
       → let x = event_answer shown in
       ((x.event_kind ≡ 3) × (x.event_at + x.event_length ≤ length f)) ⊎ Untitled x
   unfolding name_in
-  titled f position (shown.Refused fault) is = rw (refused_told fault) (inr (refl, refl, refl))
-  titled f position (shown.Given e) is =
-      let there = rw ((names s).title (some f) position e is) at ((names s).title_within (some f) position e is) in
-      rw (structs.given e, (names s).title (some f) position e is) (in_file f subject.Event e.slot.id there)
+  titled f position (Err fault) is = rw (refused_told fault) (inr (refl, refl, refl))
+  titled f position (Ok e) is =
+      let there = rw ((names s).title (Some f) position e is) at ((names s).title_within (Some f) position e is) in
+      rw (structs.given e, (names s).title (Some f) position e is) (in_file f subject.Event e.slot.id there)
 
-  untitled : (position : ℕ) (x : Shown) → event_of none s position ≡ x → Untitled (event_answer x)
+  untitled : (position : ℕ) (x : Result Event Refusal) → event_of None s position ≡ x → Untitled (event_answer x)
   unfolding name_in
-  untitled position (shown.Refused f) is = rw (refused_told f) (refl, refl, refl)
-  untitled position (shown.Given e) is = rw (structs.given e, (names s).title none position e is, structs.nameless) (refl, refl, refl)
+  untitled position (Err f) is = rw (refused_told f) (refl, refl, refl)
+  untitled position (Ok e) is = rw (structs.given e, (names s).title None position e is, structs.nameless) (refl, refl, refl)
 
 pub names_within : NamesWithin
 names_within = record {
   found = λ s pointer. found_within s (find_name s pointer) ((names s).within pointer);
-  found_with = λ f s pointer. found_there s f (find_name_with (some f) s pointer) ((names s).within_with (some f) pointer);
-  event = λ s position. event_within s (event_of none s position) ((names s).event_within none position);
-  event-with = λ f s position. event_there s f (event_of (some f) s position) ((names s).event_within (some f) position);
-  titled = λ f s position. titled s f position (event_of (some f) s position) refl;
-  untitled = λ s position. untitled s position (event_of none s position) refl;
+  found_with = λ f s pointer. found_there s f (find_name_with (Some f) s pointer) ((names s).within_with (Some f) pointer);
+  event = λ s position. event_within s (event_of None s position) ((names s).event_within None position);
+  event-with = λ f s position. event_there s f (event_of (Some f) s position) ((names s).event_within (Some f) position);
+  titled = λ f s position. titled s f position (event_of (Some f) s position) refl;
+  untitled = λ s position. untitled s position (event_of None s position) refl;
 }

@@ -56,7 +56,7 @@ library = record {
     mask_width = equation (λ κs a v w. refl);
   };
   rows = record {
-    after = equation (λ κs a v w. refl);
+    row = equation (λ κs a v w. refl);
     either = equation (λ κs a v w. refl);
     both = equation (λ κs a v w. refl);
     above = equation (λ κs a v w. refl);
@@ -119,10 +119,8 @@ library = record {
   };
   finder = record {
     find_name = equation (λ κs a v w. refl);
-    find_name_with_names = equation (λ κs a v w. refl);
     found_part = record { asks_nothing = λ κs a. tt; one_answer = λ κs a p q. (one_part p.allowed q.allowed, refl) };
     name_part = record { asks_nothing = λ κs a. tt; one_answer = λ κs a p q. (one_part p.allowed q.allowed, refl) };
-    is_named = equation (λ κs a v w. refl);
     name_with = equation (λ κs a v w. refl);
     name_of = equation (λ κs a v w. refl);
     entry_name = equation (λ κs a v w. refl);
@@ -131,7 +129,6 @@ library = record {
   };
   walk = record {
     event = equation (λ κs a v w. refl);
-    event_with_names = equation (λ κs a v w. refl);
     event_at = equation (λ κs a v w. refl);
     oldest = equation (λ κs a v w. refl);
     next = equation (λ κs a v w. refl);
@@ -140,10 +137,8 @@ library = record {
     event_with = equation (λ κs a v w. refl);
   };
   listing = record {
-    line = leaves (λ κs a x e p. (p.answered, p.output)) (λ κs a v w e i. (tt, (tt, (tt, (e i, tt)))));
-    line_with_names = leaves (λ κs a x e p. (p.answered, p.output)) (λ κs a v w e i. (tt, (tt, (tt, (tt, (e i, tt))))));
-    listing = leaves (λ κs a x e p. (p.answered, p.output)) (λ κs a v w e i. (tt, (tt, (e i, tt))));
-    listing_with_names = leaves (λ κs a x e p. (p.answered, p.output)) (λ κs a v w e i. (tt, (tt, (tt, (e i, tt)))));
+    line = leaves (λ κs a x e p. (p.answered, p.output)) (λ κs a v w e i. (tt, (tt, (tt, (tt, (e i, tt))))));
+    listing = leaves (λ κs a x e p. (p.answered, p.output)) (λ κs a v w e i. (tt, (tt, (tt, (e i, tt)))));
   };
   recorder = record {
     «record» = leaves (λ κs a x e p. p) (λ κs a v w e i. (e i, v.1));

@@ -1,7 +1,7 @@
 -- The calls of document 01, with a name file or without, the call that writes a record of one, mending, and the check in pieces: whatever a contract allows is the
 -- answer of which the demands speak.
-use Rattle.std.specs.Prelude.{ℕ, List, ◌≡◌, length}
-use Rattle.std.proofs.Math.Option.{none, some}
+use Rattle.std.specs.Prelude as std
+use Rattle.std.specs.Prelude.{ℕ, List, ◌≡◌, length, None, option_copied, unwrap_or}
 use denote.Triple.Clauses.{Ended, Lasts}
 use Rattle.dump.proofs as dump
 use Rattle.dump.specs.contracts as dump-contracts
@@ -29,6 +29,7 @@ use Rattle.registrar.proofs as registrar
 use Rattle.registrar.specs.contracts as registrar-contracts
 use Rattle.rows.specs.Lent.{left_in}
 use Rattle.rows.specs.Rows.{first_broken}
+use Rattle.rows.specs.declared.Refusal.{Refusal}
 use Rattle.trace.specs.Check.{check_of}
 use Rattle.trace.specs.Layout.{header_of}
 use Rattle.trace.specs.Names.{find_name, name_found, name_length, name_start}
@@ -36,7 +37,6 @@ use Rattle.trace.specs.Parts.{PartOf, whichever}
 use Rattle.walk.proofs as walk
 use Rattle.walk.specs.contracts as walk-contracts
 use Rattle.writing.specs.Writing.{Change, filing, formatting, left, recording, registering, removing, said}
-use Rattle.writing.specs.declared.Outcome.{Outcome}
 use Rattle.contracts.specs.Settled.{Answer, Arguments, Lives, Result, Telling}
 
 -- a fact of the arguments a, of the result x, and of last, which has at its parameter's place what a buffer that is lent to be written holds at exit
@@ -44,57 +44,41 @@ abbrev pub Allows : (T : Ended) → Telling T → ((κs : Lives T) (a : Argument
 Allows T learnt only = (κs : Lives T) (a : Arguments T κs) (p : Answer T learnt κs a) → only κs a p.result p.left
 
 -- what a call that writes gives and leaves
-abbrev pub Changed : (List ℕ → Change) → List ℕ → List ℕ → Outcome → Type 0
+abbrev pub Changed : (List ℕ → Change) → List ℕ → List ℕ → std.Result ℕ Refusal → Type 0
 Changed change old new x = (x ≡ said (change old)) × (new ≡ left (change old) old)
 
 -- what mending gives, and leaves in the second buffer
-abbrev pub Mended : List ℕ → List ℕ → List ℕ → mended.Mended → Type 0
+abbrev pub Mended : List ℕ → List ℕ → List ℕ → std.Result mended.Mended Refusal → Type 0
 Mended s old new x = (x ≡ mend_of s (length old)) × (new ≡ left_in old (first_broken (mending_rows s (header_of s) (length old))) (copy_of s (header_of s)))
 
 pub record Calls : Type 0 where
   -- check(dump)
   pub check : Allows dump-contracts.check.ended dump.check.Reads.Learnt (λ κs a x last. x ≡ check_of a.0.now)
-  -- find_name(dump, pointer)
+  -- find_name(dump, names, pointer), with a name file or without
   pub find_name : Allows finder-contracts.find_name.ended finder.find_name.Reads.Learnt (λ κs a x last.
-      let s = a.0.now in let pointer = a.1.0 in
-      x ≡ find_name s pointer)
-  -- find_name_with_names(dump, names, pointer)
-  pub find_name_with_names : Allows finder-contracts.find_name_with_names.ended finder.find_name_with_names.Reads.Learnt (λ κs a x last.
-      let s = a.0.now in let names = a.1.0.now in let pointer = a.1.1.0 in
-      x ≡ find_name_with (some names) s pointer)
+      let s = a.0.now in let file = option_copied a.1.0 in let pointer = a.1.1.0 in
+      (x ≡ find_name_with file s pointer) × (file ≡ None → x ≡ find_name s pointer))
   -- found_part(dump, names, found), name_part(dump, names, name): that part of whichever of the two it lies in and not a copy, empty where there is no name, and in
   -- a refusal
   pub found_part : Allows finder-contracts.found_part.ended finder.found_part.Reads.Learnt (λ κs a x last.
       let name = name_found a.1.1.0 in
-      PartOf (whichever a.0 a.1.0 name) x (name_start name) (name_length name))
+      PartOf (whichever a.0 (unwrap_or a.1.0 a.0) name) x (name_start name) (name_length name))
   pub name_part : Allows finder-contracts.name_part.ended finder.name_part.Reads.Learnt (λ κs a x last.
       let name = a.1.1.0 in
-      PartOf (whichever a.0 a.1.0 name) x (name_start name) (name_length name))
-  -- event(dump, position)
+      PartOf (whichever a.0 (unwrap_or a.1.0 a.0) name) x (name_start name) (name_length name))
+  -- event(dump, names, position)
   pub event : Allows walk-contracts.event.ended walk.event.Reads.Learnt (λ κs a x last.
-      let s = a.0.now in let position = a.1.0 in
-      x ≡ event_of none s position)
-  -- event_with_names(dump, names, position)
-  pub event_with_names : Allows walk-contracts.event_with_names.ended walk.event_with_names.Reads.Learnt (λ κs a x last.
-      let s = a.0.now in let names = a.1.0.now in let position = a.1.1.0 in
-      x ≡ event_of (some names) s position)
-  -- line(dump, reading, position, out)
+      let s = a.0.now in let file = option_copied a.1.0 in let position = a.1.1.0 in
+      x ≡ event_of file s position)
+  -- line(dump, names, reading, position, out)
   pub line : Allows listing-contracts.line.ended listing.line.Reads.Learnt (λ κs a x last.
-      let s = a.0.now in let reading = a.1.0 in let position = a.1.1.0 in let old = a.1.1.1.0.now in let new = last.1.1.1.0 in
-      Gave (line_rows none s (header_of s) reading position (length old)) (line_at none s (header_of s) reading position) old new x)
-  -- line_with_names(dump, names, reading, position, out)
-  pub line_with_names : Allows listing-contracts.line_with_names.ended listing.line_with_names.Reads.Learnt (λ κs a x last.
-      let s = a.0.now in let file = some a.1.0.now in let reading = a.1.1.0 in let position = a.1.1.1.0 in
+      let s = a.0.now in let file = option_copied a.1.0 in let reading = a.1.1.0 in let position = a.1.1.1.0 in
       let old = a.1.1.1.1.0.now in let new = last.1.1.1.1.0 in
       Gave (line_rows file s (header_of s) reading position (length old)) (line_at file s (header_of s) reading position) old new x)
-  -- listing_with_names(dump, names, reading, out)
-  pub listing_with_names : Allows listing-contracts.listing_with_names.ended listing.listing_with_names.Reads.Learnt (λ κs a x last.
-      let s = a.0.now in let file = some a.1.0.now in let reading = a.1.1.0 in let old = a.1.1.1.0.now in let new = last.1.1.1.0 in
-      Gave (listing_rows file s (header_of s) reading (length old)) (listing_text file s (header_of s) reading) old new x)
-  -- listing(dump, reading, out)
+  -- listing(dump, names, reading, out)
   pub listing : Allows listing-contracts.listing.ended listing.listing.Reads.Learnt (λ κs a x last.
-      let s = a.0.now in let reading = a.1.0 in let old = a.1.1.0.now in let new = last.1.1.0 in
-      Gave (listing_rows none s (header_of s) reading (length old)) (listing_text none s (header_of s) reading) old new x)
+      let s = a.0.now in let file = option_copied a.1.0 in let reading = a.1.1.0 in let old = a.1.1.1.0.now in let new = last.1.1.1.0 in
+      Gave (listing_rows file s (header_of s) reading (length old)) (listing_text file s (header_of s) reading) old new x)
   -- format(buffer, format)
   pub format : Allows formatter-contracts.format.ended formatter.format.Reads.Learnt (λ κs a x last.
       let old = a.0.now in let format = a.1.0 in let new = last.0 in

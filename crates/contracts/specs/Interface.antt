@@ -1,22 +1,18 @@
 -- The calls for C: each asks nothing and has one answer, whose numbers are those that the library's answer tells; 0 says that a call was accepted; names lie within
 -- the dump or the name file.
-use Rattle.std.specs.Prelude.{ℕ, ◌+◌, ◌≤◌, cond, List, ◌⊎◌, ◌≡◌, eqb, length}
-use Rattle.std.proofs.Math.Option.{Option, none, some}
+use Rattle.std.specs.Prelude.{ℕ, ◌+◌, ◌≤◌, cond, List, ◌⊎◌, ◌≡◌, eqb, length, None, Ok, Option, Some}
 use Rattle.demands.specs.Refusals.{Refuses, RefusesAndKeeps}
 use Rattle.events.specs.Events.{context_number, event_of, event_rows}
 use Rattle.events.specs.Listing.{Gave, line_at, line_rows, listing_rows, listing_text}
 use Rattle.events.specs.declared.Event.{Event}
-use Rattle.events.specs.declared.Listed.TheVariants.{Written}
 use Rattle.events.specs.declared.Reading.{Reading}
-use Rattle.events.specs.declared.Shown.TheVariants.{Given}
 use Rattle.lepsaino_c.proofs as calls
 use Rattle.lepsaino_c.specs.contracts as calls-contracts
-use Rattle.lepsaino_c.specs.Answers.{GaveNumbers, answer_of, check_answer, check_answer_of, event_answer, event_answer_of, format_given, listed_answer, mend_answer, mend_answer_of, name_answer, name_answer_of, order_given, outcome_answer, subject_given}
+use Rattle.lepsaino_c.specs.Answers.{GaveNumbers, answer_of, check_answer, check_answer_of, event_answer, event_answer_of, format_given, number_answer, mend_answer, mend_answer_of, name_answer, name_answer_of, order_given, subject_given}
 use Rattle.lepsaino_c.specs.declared.answers.Answer.{Answer}
 use Rattle.lepsaino_c.specs.declared.answers.EventAnswer.{EventAnswer}
 use Rattle.lepsaino_c.specs.declared.answers.NameAnswer.{NameAnswer}
-use Rattle.mending.specs.Mending.{mend_of, mending_rows}
-use Rattle.mending.specs.declared.Mended.TheVariants.{Copied}
+use Rattle.mending.specs.Mending.{mend_of, mending_rows, mended_copy}
 use Rattle.mending.specs.declared.Repairs.{Repairs}
 use Rattle.naming.specs.Finding.{find_name_with, finding_rows}
 use Rattle.naming.specs.declared.Subject.{Subject}
@@ -28,21 +24,18 @@ use Rattle.rows.specs.Told.{Told, told_refusal}
 use Rattle.rows.specs.declared.Refusal.{Refusal}
 use Rattle.text.specs.Numbers.{number}
 use Rattle.text.specs.Output.{Put, printed}
-use Rattle.trace.specs.Check.{check_of, order_number}
+use Rattle.trace.specs.Check.{check_of, order_number, sound_dump}
 use Rattle.trace.specs.Layout.{header_of}
 use Rattle.trace.specs.Names.{find_name}
 use Rattle.trace.specs.Table.{dump_rows, registry_rows}
-use Rattle.trace.specs.declared.Checked.TheVariants.{Sound}
-use Rattle.trace.specs.declared.Found.TheVariants.{Searched}
 use Rattle.trace.specs.declared.Header.{Header}
-use Rattle.trace.specs.declared.Name.TheVariants.{Filed, Named, Nameless}
+use Rattle.trace.specs.declared.Name.TheVariants.{Filed, Named}
 use Rattle.trace.specs.declared.ThreadKind.TheVariants.{Gone, Live}
 use Rattle.trace.specs.declared.Slot.{Slot}
 use Rattle.words.specs.declared.Order.{Order}
 use Rattle.writing.specs.Writing.{filing, formatting, recording, registering, removing, said}
 use Rattle.writing.specs.declared.Format.{Format}
 use Rattle.writing.specs.declared.Object.{Object}
-use Rattle.writing.specs.declared.Outcome.TheVariants.{Done}
 use Rattle.contracts.specs.Calls.{Allows, Changed, Mended}
 use Rattle.contracts.specs.Settled.{Settled}
 
@@ -77,39 +70,39 @@ pub record InterfaceGives : Type 0 where
   pub begin : Allows calls-contracts.lepsaino_begin.ended calls.lepsaino_begin.Reads.Learnt (λ κs a x last. x ≡ begun)
   pub feed : Allows calls-contracts.lepsaino_feed.ended calls.lepsaino_feed.Reads.Learnt (λ κs a x last. x ≡ fed a.0 a.1.0.now)
   pub finish : Allows calls-contracts.lepsaino_finish.ended calls.lepsaino_finish.Reads.Learnt (λ κs a x last. x ≡ check_answer (finished a.0))
-  pub event : Allows calls-contracts.lepsaino_event.ended calls.lepsaino_event.Reads.Learnt (λ κs a x last. x ≡ event_answer (event_of none a.0.now a.1.0))
+  pub event : Allows calls-contracts.lepsaino_event.ended calls.lepsaino_event.Reads.Learnt (λ κs a x last. x ≡ event_answer (event_of None a.0.now a.1.0))
   pub event_with_names : Allows calls-contracts.lepsaino_event_with_names.ended calls.lepsaino_event_with_names.Reads.Learnt (λ κs a x last.
-      x ≡ event_answer (event_of (some a.1.0.now) a.0.now a.1.1.0))
+      x ≡ event_answer (event_of (Some a.1.0.now) a.0.now a.1.1.0))
   pub find_name : Allows calls-contracts.lepsaino_find_name.ended calls.lepsaino_find_name.Reads.Learnt (λ κs a x last. x ≡ name_answer (find_name a.0.now a.1.0))
   pub find_name_with_names : Allows calls-contracts.lepsaino_find_name_with_names.ended calls.lepsaino_find_name_with_names.Reads.Learnt (λ κs a x last.
-      x ≡ name_answer (find_name_with (some a.1.0.now) a.0.now a.1.1.0))
+      x ≡ name_answer (find_name_with (Some a.1.0.now) a.0.now a.1.1.0))
   pub line : Allows calls-contracts.lepsaino_line.ended calls.lepsaino_line.Reads.Learnt (λ κs a x last.
       let s = a.0.now in let reading = a.1.0 in let position = a.1.1.0 in let old = a.1.1.1.0.now in let new = last.1.1.1.0 in
-      InNumbers listed_answer (Gave (line_rows none s (header_of s) reading position (length old)) (line_at none s (header_of s) reading position) old new) x)
+      InNumbers number_answer (Gave (line_rows None s (header_of s) reading position (length old)) (line_at None s (header_of s) reading position) old new) x)
   pub line_with_names : Allows calls-contracts.lepsaino_line_with_names.ended calls.lepsaino_line_with_names.Reads.Learnt (λ κs a x last.
-      let s = a.0.now in let reading = a.1.0 in let position = a.1.1.0 in let file = some a.1.1.1.0.now in
+      let s = a.0.now in let reading = a.1.0 in let position = a.1.1.0 in let file = Some a.1.1.1.0.now in
       let old = a.1.1.1.1.0.now in let new = last.1.1.1.1.0 in
-      InNumbers listed_answer (Gave (line_rows file s (header_of s) reading position (length old)) (line_at file s (header_of s) reading position) old new) x)
+      InNumbers number_answer (Gave (line_rows file s (header_of s) reading position (length old)) (line_at file s (header_of s) reading position) old new) x)
   pub listing : Allows calls-contracts.lepsaino_listing.ended calls.lepsaino_listing.Reads.Learnt (λ κs a x last.
       let s = a.0.now in let reading = a.1.0 in let old = a.1.1.0.now in let new = last.1.1.0 in
-      InNumbers listed_answer (Gave (listing_rows none s (header_of s) reading (length old)) (listing_text none s (header_of s) reading) old new) x)
+      InNumbers number_answer (Gave (listing_rows None s (header_of s) reading (length old)) (listing_text None s (header_of s) reading) old new) x)
   pub listing_with_names : Allows calls-contracts.lepsaino_listing_with_names.ended calls.lepsaino_listing_with_names.Reads.Learnt (λ κs a x last.
-      let s = a.0.now in let reading = a.1.0 in let file = some a.1.1.0.now in let old = a.1.1.1.0.now in let new = last.1.1.1.0 in
-      InNumbers listed_answer (Gave (listing_rows file s (header_of s) reading (length old)) (listing_text file s (header_of s) reading) old new) x)
+      let s = a.0.now in let reading = a.1.0 in let file = Some a.1.1.0.now in let old = a.1.1.1.0.now in let new = last.1.1.1.0 in
+      InNumbers number_answer (Gave (listing_rows file s (header_of s) reading (length old)) (listing_text file s (header_of s) reading) old new) x)
   pub number : Allows calls-contracts.lepsaino_number.ended calls.lepsaino_number.Reads.Learnt (λ κs a x last.
       let old = a.0.now in
       Put (printed (number a.1.0) old) old last.0 x)
   pub format : Allows calls-contracts.lepsaino_format.ended calls.lepsaino_format.Reads.Learnt (λ κs a x last.
-      InNumbers outcome_answer (Changed (formatting (format_given a.1.0)) a.0.now last.0) x)
+      InNumbers number_answer (Changed (formatting (format_given a.1.0)) a.0.now last.0) x)
   pub «record» : Allows calls-contracts.lepsaino_record.ended calls.lepsaino_record.Reads.Learnt (λ κs a x last.
-      InNumbers outcome_answer (Changed (recording a.1.0) a.0.now last.0) x)
+      InNumbers number_answer (Changed (recording a.1.0) a.0.now last.0) x)
   pub register : Allows calls-contracts.lepsaino_register.ended calls.lepsaino_register.Reads.Learnt (λ κs a x last.
-      InNumbers outcome_answer (Changed (registering a.1.0 a.1.1.0.now) a.0.now last.0) x)
+      InNumbers number_answer (Changed (registering a.1.0 a.1.1.0.now) a.0.now last.0) x)
   pub remove : Allows calls-contracts.lepsaino_remove.ended calls.lepsaino_remove.Reads.Learnt (λ κs a x last.
-      InNumbers outcome_answer (Changed (removing a.1.0) a.0.now last.0) x)
+      InNumbers number_answer (Changed (removing a.1.0) a.0.now last.0) x)
   pub write_name : Allows calls-contracts.lepsaino_write_name.ended calls.lepsaino_write_name.Reads.Learnt (λ κs a x last.
       let offset = a.1.0 in let subject = subject_given a.1.1.0 in let number = a.1.1.1.0 in let name = a.1.1.1.1.0.now in
-      InNumbers outcome_answer (Changed (filing subject number name offset) a.0.now last.0) x)
+      InNumbers number_answer (Changed (filing subject number name offset) a.0.now last.0) x)
   pub mend : Allows calls-contracts.lepsaino_mend.ended calls.lepsaino_mend.Reads.Learnt (λ κs a x last.
       InNumbers mend_answer (Mended a.0.now a.1.0.now last.1.0) x)
 
@@ -129,28 +122,28 @@ pub record InterfaceRefuses : Type 0 where
   pub finish : Allows calls-contracts.lepsaino_finish.ended calls.lepsaino_finish.Reads.Learnt (λ κs a x last. Tells check_answer_of (finish_rows a.0) x)
   pub event : Allows calls-contracts.lepsaino_event.ended calls.lepsaino_event.Reads.Learnt (λ κs a x last.
       let s = a.0.now in let position = a.1.0 in
-      Tells event_answer_of (event_rows none s (header_of s) position) x)
+      Tells event_answer_of (event_rows None s (header_of s) position) x)
   pub event_with_names : Allows calls-contracts.lepsaino_event_with_names.ended calls.lepsaino_event_with_names.Reads.Learnt (λ κs a x last.
-      let s = a.0.now in let file = some a.1.0.now in let position = a.1.1.0 in
+      let s = a.0.now in let file = Some a.1.0.now in let position = a.1.1.0 in
       Tells event_answer_of (event_rows file s (header_of s) position) x)
   pub find_name : Allows calls-contracts.lepsaino_find_name.ended calls.lepsaino_find_name.Reads.Learnt (λ κs a x last.
       let s = a.0.now in
       Tells name_answer_of (registry_rows s (header_of s)) x)
   pub find_name_with_names : Allows calls-contracts.lepsaino_find_name_with_names.ended calls.lepsaino_find_name_with_names.Reads.Learnt (λ κs a x last.
-      let s = a.0.now in let file = some a.1.0.now in
+      let s = a.0.now in let file = Some a.1.0.now in
       Tells name_answer_of (finding_rows file s (header_of s)) x)
   pub line : Allows calls-contracts.lepsaino_line.ended calls.lepsaino_line.Reads.Learnt (λ κs a x last.
       let s = a.0.now in let reading = a.1.0 in let position = a.1.1.0 in let old = a.1.1.1.0.now in let new = last.1.1.1.0 in
-      TellsAndKeeps answer_of (line_rows none s (header_of s) reading position (length old)) old new x)
+      TellsAndKeeps answer_of (line_rows None s (header_of s) reading position (length old)) old new x)
   pub line_with_names : Allows calls-contracts.lepsaino_line_with_names.ended calls.lepsaino_line_with_names.Reads.Learnt (λ κs a x last.
-      let s = a.0.now in let reading = a.1.0 in let position = a.1.1.0 in let file = some a.1.1.1.0.now in
+      let s = a.0.now in let reading = a.1.0 in let position = a.1.1.0 in let file = Some a.1.1.1.0.now in
       let old = a.1.1.1.1.0.now in let new = last.1.1.1.1.0 in
       TellsAndKeeps answer_of (line_rows file s (header_of s) reading position (length old)) old new x)
   pub listing : Allows calls-contracts.lepsaino_listing.ended calls.lepsaino_listing.Reads.Learnt (λ κs a x last.
       let s = a.0.now in let reading = a.1.0 in let old = a.1.1.0.now in let new = last.1.1.0 in
-      TellsAndKeeps answer_of (listing_rows none s (header_of s) reading (length old)) old new x)
+      TellsAndKeeps answer_of (listing_rows None s (header_of s) reading (length old)) old new x)
   pub listing_with_names : Allows calls-contracts.lepsaino_listing_with_names.ended calls.lepsaino_listing_with_names.Reads.Learnt (λ κs a x last.
-      let s = a.0.now in let reading = a.1.0 in let file = some a.1.1.0.now in let old = a.1.1.1.0.now in let new = last.1.1.1.0 in
+      let s = a.0.now in let reading = a.1.0 in let file = Some a.1.1.0.now in let old = a.1.1.1.0.now in let new = last.1.1.1.0 in
       TellsAndKeeps answer_of (listing_rows file s (header_of s) reading (length old)) old new x)
   pub format : Allows calls-contracts.lepsaino_format.ended calls.lepsaino_format.Reads.Learnt (λ κs a x last.
       let old = a.0.now in let new = last.0 in
@@ -227,14 +220,14 @@ pub record Structs : Type 0 where
   pub mend : (f : Refusal)
       → mend_answer_of (told_refusal f)
       ≡ record { refusal = f.number; place = f.place; length = 0; missing = 0; current = 0; types = 0; ids = 0; packed = 0; moved = 0 }
-  pub written : (n : ℕ) → listed_answer (Written n) ≡ record { refusal = 0; place = 0; value = n }
-  pub done : (n : ℕ) → outcome_answer (Done n) ≡ record { refusal = 0; place = 0; value = n }
-  pub live : (at length : ℕ) → name_answer (Searched (Named Live at length)) ≡ record { refusal = 0; place = 0; kind = 1; at = at; length = length }
-  pub gone : (at length : ℕ) → name_answer (Searched (Named Gone at length)) ≡ record { refusal = 0; place = 0; kind = 2; at = at; length = length }
-  pub filed : (at length : ℕ) → name_answer (Searched (Filed at length)) ≡ record { refusal = 0; place = 0; kind = 3; at = at; length = length }
-  pub nameless : name_answer (Searched Nameless) ≡ record { refusal = 0; place = 0; kind = 0; at = 0; length = 0 }
+  pub written : (n : ℕ) → number_answer (Ok n) ≡ record { refusal = 0; place = 0; value = n }
+  pub done : (n : ℕ) → number_answer (Ok n) ≡ record { refusal = 0; place = 0; value = n }
+  pub live : (at length : ℕ) → name_answer (Ok (Some (Named Live at length))) ≡ record { refusal = 0; place = 0; kind = 1; at = at; length = length }
+  pub gone : (at length : ℕ) → name_answer (Ok (Some (Named Gone at length))) ≡ record { refusal = 0; place = 0; kind = 2; at = at; length = length }
+  pub filed : (at length : ℕ) → name_answer (Ok (Some (Filed at length))) ≡ record { refusal = 0; place = 0; kind = 3; at = at; length = length }
+  pub nameless : name_answer (Ok None) ≡ record { refusal = 0; place = 0; kind = 0; at = 0; length = 0 }
   pub sound : (h : Header) (n : ℕ)
-      → check_answer (Sound h n)
+      → check_answer (Ok (sound_dump h n))
       ≡ record {
         refusal = 0;
         place = 0;
@@ -251,9 +244,9 @@ pub record Structs : Type 0 where
         events = n;
       }
   pub given : (e : Event)
-      → event_answer (Given e) ≡ event_struct e.slot e.ticks (context_number e.by) (name_answer (Searched e.name)) (name_answer (Searched e.title))
+      → event_answer (Ok e) ≡ event_struct e.slot e.ticks (context_number e.by) (name_answer (Ok e.name)) (name_answer (Ok e.title))
   pub copied : (n : ℕ) (r : Repairs)
-      → mend_answer (Copied n r)
+      → mend_answer (Ok (mended_copy n r))
       ≡ record { refusal = 0; place = 0; length = n; missing = r.missing; current = r.current; types = r.types; ids = r.ids; packed = r.packed; moved = r.moved }
   pub order : (o : Order) → order_given (order_number o) ≡ o
   -- whose record is written: 0 says an event's, and any other number a thread's
@@ -273,12 +266,12 @@ pub record ZeroAccepts : Type 0 where
   pub listing : (file : Option (List ℕ)) (s : List ℕ) (r : Reading) (old new : List ℕ) (numbers : Answer)
       → GaveNumbers (listing_rows file s (header_of s) r (length old)) (listing_text file s (header_of s) r) old new numbers
       → numbers.refusal ≡ 0 → Accepted (listing_rows file s (header_of s) r (length old))
-  pub format : (f : Format) (s : List ℕ) → (outcome_answer (said (formatting f s))).refusal ≡ 0 → Accepted (formatting f s).rows
-  pub «record» : (slot : Slot) (s : List ℕ) → (outcome_answer (said (recording slot s))).refusal ≡ 0 → Accepted (recording slot s).rows
-  pub register : (object : Object) (name s : List ℕ) → (outcome_answer (said (registering object name s))).refusal ≡ 0 → Accepted (registering object name s).rows
-  pub remove : (pointer : ℕ) (s : List ℕ) → (outcome_answer (said (removing pointer s))).refusal ≡ 0 → Accepted (removing pointer s).rows
+  pub format : (f : Format) (s : List ℕ) → (number_answer (said (formatting f s))).refusal ≡ 0 → Accepted (formatting f s).rows
+  pub «record» : (slot : Slot) (s : List ℕ) → (number_answer (said (recording slot s))).refusal ≡ 0 → Accepted (recording slot s).rows
+  pub register : (object : Object) (name s : List ℕ) → (number_answer (said (registering object name s))).refusal ≡ 0 → Accepted (registering object name s).rows
+  pub remove : (pointer : ℕ) (s : List ℕ) → (number_answer (said (removing pointer s))).refusal ≡ 0 → Accepted (removing pointer s).rows
   pub write_name : (subject : Subject) (number : ℕ) (name : List ℕ) (offset : ℕ) (s : List ℕ)
-      → (outcome_answer (said (filing subject number name offset s))).refusal ≡ 0 → Accepted (filing subject number name offset s).rows
+      → (number_answer (said (filing subject number name offset s))).refusal ≡ 0 → Accepted (filing subject number name offset s).rows
   pub mend : (s old : List ℕ) → (mend_answer (mend_of s (length old))).refusal ≡ 0 → Accepted (mending_rows s (header_of s) (length old))
 
 -- what a name of a kind lies in: the name file, which is kind 3, or the dump
@@ -293,16 +286,16 @@ Untitled x = (x.event_kind ≡ 0) × (x.event_at ≡ 0) × (x.event_length ≡ 0
 pub record NamesWithin : Type 0 where
   pub found : (s : List ℕ) (pointer : ℕ) → (name_answer (find_name s pointer)).at + (name_answer (find_name s pointer)).length ≤ length s
   pub found_with : (f s : List ℕ) (pointer : ℕ)
-      → let x = name_answer (find_name_with (some f) s pointer) in
+      → let x = name_answer (find_name_with (Some f) s pointer) in
       x.at + x.length ≤ length (lying_by x.kind f s)
   pub event : (s : List ℕ) (position : ℕ)
-      → let x = event_answer (event_of none s position) in
+      → let x = event_answer (event_of None s position) in
       x.name_at + x.name_length ≤ length s
   pub event-with : (f s : List ℕ) (position : ℕ)
-      → let x = event_answer (event_of (some f) s position) in
+      → let x = event_answer (event_of (Some f) s position) in
       x.name_at + x.name_length ≤ length (lying_by x.name_kind f s)
   -- an event's own name lies within the file, or there is none; without a file there is none
   pub titled : (f s : List ℕ) (position : ℕ)
-      → let x = event_answer (event_of (some f) s position) in
+      → let x = event_answer (event_of (Some f) s position) in
       ((x.event_kind ≡ 3) × (x.event_at + x.event_length ≤ length f)) ⊎ Untitled x
-  pub untitled : (s : List ℕ) (position : ℕ) → Untitled (event_answer (event_of none s position))
+  pub untitled : (s : List ℕ) (position : ℕ) → Untitled (event_answer (event_of None s position))

@@ -1,6 +1,5 @@
 -- What the library's table of pairs is worth: `fit_number` and `fit_line`, which are lent a table, promise a text by whatever it holds; by this one it is the number's and the line's.
-use Rattle.std.specs.Prelude.{ℕ, List, ◌≡◌, length}
-use Rattle.std.proofs.Math.Option.{Option}
+use Rattle.std.specs.Prelude.{ℕ, List, ◌≡◌, length, Option}
 use Rattle.lines.specs.Pairs.{line_by}
 use Rattle.numbers.specs.Pairs.{HasPairs, number_by, pairs}
 use Rattle.text.specs.Lines.{line}

@@ -62,7 +62,7 @@ pub record Words : Type 0 where
   pub mask_width : Settled words-contracts.mask_width.ended words.mask_width.Reads.Asked words.mask_width.Reads.Learnt
 
 pub record Rows : Type 0 where
-  pub after : Settled rows-contracts.after.ended rows.after.Reads.Asked rows.after.Reads.Learnt
+  pub row : Settled rows-contracts.row.ended rows.row.Reads.Asked rows.row.Reads.Learnt
   pub either : Settled rows-contracts.either.ended rows.either.Reads.Asked rows.either.Reads.Learnt
   pub both : Settled rows-contracts.both.ended rows.both.Reads.Asked rows.both.Reads.Learnt
   pub above : Settled rows-contracts.above.ended rows.above.Reads.Asked rows.above.Reads.Learnt
@@ -125,10 +125,8 @@ pub record Namer : Type 0 where
 
 pub record Finder : Type 0 where
   pub find_name : Settled finder-contracts.find_name.ended finder.find_name.Reads.Asked finder.find_name.Reads.Learnt
-  pub find_name_with_names : Settled finder-contracts.find_name_with_names.ended finder.find_name_with_names.Reads.Asked finder.find_name_with_names.Reads.Learnt
   pub found_part : Settled finder-contracts.found_part.ended finder.found_part.Reads.Asked finder.found_part.Reads.Learnt
   pub name_part : Settled finder-contracts.name_part.ended finder.name_part.Reads.Asked finder.name_part.Reads.Learnt
-  pub is_named : Settled finder-contracts.is_named.ended finder.is_named.Reads.Asked finder.is_named.Reads.Learnt
   pub name_with : Settled finder-contracts.name_with.ended finder.name_with.Reads.Asked finder.name_with.Reads.Learnt
   pub name_of : Settled finder-contracts.name_of.ended finder.name_of.Reads.Asked finder.name_of.Reads.Learnt
   pub entry_name : Settled finder-contracts.entry_name.ended finder.entry_name.Reads.Asked finder.entry_name.Reads.Learnt
@@ -137,7 +135,6 @@ pub record Finder : Type 0 where
 
 pub record Walk : Type 0 where
   pub event : Settled walk-contracts.event.ended walk.event.Reads.Asked walk.event.Reads.Learnt
-  pub event_with_names : Settled walk-contracts.event_with_names.ended walk.event_with_names.Reads.Asked walk.event_with_names.Reads.Learnt
   pub event_at : Settled walk-contracts.event_at.ended walk.event_at.Reads.Asked walk.event_at.Reads.Learnt
   pub oldest : Settled walk-contracts.oldest.ended walk.oldest.Reads.Asked walk.oldest.Reads.Learnt
   pub next : Settled walk-contracts.next.ended walk.next.Reads.Asked walk.next.Reads.Learnt
@@ -147,8 +144,6 @@ pub record Walk : Type 0 where
 
 pub record Listing : Type 0 where
   pub line : Settled listing-contracts.line.ended listing.line.Reads.Asked listing.line.Reads.Learnt
-  pub line_with_names : Settled listing-contracts.line_with_names.ended listing.line_with_names.Reads.Asked listing.line_with_names.Reads.Learnt
-  pub listing_with_names : Settled listing-contracts.listing_with_names.ended listing.listing_with_names.Reads.Asked listing.listing_with_names.Reads.Learnt
   pub listing : Settled listing-contracts.listing.ended listing.listing.Reads.Asked listing.listing.Reads.Learnt
 
 pub record Recorder : Type 0 where

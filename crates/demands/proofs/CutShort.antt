@@ -1,4 +1,5 @@
 -- Rows 1 to 10 give 26 exactly where an end that is right is missed, and 7 or 9 for one that is not; and what was cut is so with more bytes too, as long as these do not reach the end.
+use Rattle.std.specs.Prelude.{Err, Ok}
 use Prim.Native.Nat.{ℕ, suc, ◌+◌, ◌-◌, ◌≤◌, ◌<◌}
 use mathlib.Core.Bool.{Bool, true, false, cond, true≢false}
 use mathlib.Core.List.{List, [], ◌∷◌, ◌++◌}
@@ -9,9 +10,8 @@ use lib.Dec.{ltb}
 use borrow.Author.Tests.{eq-eqb, le-ltb, lt-ltb, ltb-false, ltb-true}
 use Rattle.rows.proofs.Numbered.{by_number, front_passed, front_without}
 use Rattle.rows.proofs.Rows.{among, kept_too, one_kept, passed_before, then_broken, then_rest, unbroken}
-use Rattle.rows.specs.Rows.{Accepted, Row, first_broken}
+use Rattle.rows.specs.Rows.{Accepted, Row, first_broken, Verdict}
 use Rattle.rows.specs.declared.Refusal.{Refusal}
-use Rattle.rows.specs.declared.Verdict.TheVariants.{Passed, Refused}
 use Rattle.trace.proofs.Opened.{open_rows}
 use Rattle.trace.proofs.Passed.{buffer_sized, dump_long, dump_short, entries_end, keeps, one_pointer, registry_sized, registry_within, slots_end, start_rows}
 use Rattle.trace.specs.Layout.{buffer_end, buffer_start, entry_count, entry_size, header_size, most_bytes, registry_end, slot_count, slot_size}
@@ -21,7 +21,7 @@ use Rattle.demands.specs.Cut.{CutShort, MissedEnd, Missing, RegistryThere, Right
 use Rattle.demands.specs.Refusals.{given_at}
 
 -- a length without a whole header gets 1
-pub header_missed : (h : Header) (n : ℕ) → n < header_size → first_broken (header_rows h n) ≡ Refused (given_at 1 0)
+pub header_missed : (h : Header) (n : ℕ) → n < header_size → first_broken (header_rows h n) ≡ Err (given_at 1 0)
 unfolding first_broken row1
 header_missed h n below = rw (lt-ltb n header_size below)
 
@@ -35,10 +35,10 @@ begun_at h m passed n long short =
     begun_same h m n (dump_long h m [] passed) (dump_short h m [] passed) long short ∙ passed_before (before_ends h m) (row7 h ∷ []) passed
 
 -- ends that have passed are right
-pub registry_right : (h : Header) (n : ℕ) (more : List Row) → first_broken (start_rows h n ++ more) ≡ Passed → RightRegistry h
+pub registry_right : (h : Header) (n : ℕ) (more : List Row) → first_broken (start_rows h n ++ more) ≡ Ok tt → RightRegistry h
 registry_right h n more passed = record { parts = entry_count h; whole = entries_end h n more passed; most = (registry_sized h n more passed).1 }
 
-module _ (h : Header) (n : ℕ) (more : List Row) (passed : first_broken (layout_rows h n ++ more) ≡ Passed) where
+module _ (h : Header) (n : ℕ) (more : List Row) (passed : first_broken (layout_rows h n ++ more) ≡ Ok tt) where
   registry_there : RegistryThere h n
   registry_there = (registry_right h n _ passed, registry_within h n more passed, one_pointer h n more passed)
 
@@ -72,39 +72,39 @@ module _ (h : Header) (n : ℕ) where
       (omega (arith, some, right.whole, right.most)))
 
   -- while one that is not is refused
-  pub registry_nonsense : Accepted (before_ends h n) → (RightRegistry h → ⊥) → first_broken (header_rows h n) ≡ Refused (given_at 7 0)
+  pub registry_nonsense : Accepted (before_ends h n) → (RightRegistry h → ⊥) → first_broken (header_rows h n) ≡ Err (given_at 7 0)
   unfolding row7
   registry_nonsense begun wrong = by (row7 h).broken refl
     where
-      by : (b : Bool) → (row7 h).broken ≡ b → first_broken (header_rows h n) ≡ Refused (given_at 7 0)
+      by : (b : Bool) → (row7 h).broken ≡ b → first_broken (header_rows h n) ≡ Err (given_at 7 0)
       by true broken = then_broken (before_ends h n) (row7 h) _ begun broken
       by false kept = absurd (wrong (registry_right h n [] (sym (then_rest (before_ends h n) (row7 h ∷ []) begun) ∙ one_kept (row7 h) kept)))
 
-  pub buffer_nonsense : Accepted (before_ends h n) → RegistryThere h n → (RightBuffer h → ⊥) → first_broken (header_rows h n) ≡ Refused (given_at 9 0)
+  pub buffer_nonsense : Accepted (before_ends h n) → RegistryThere h n → (RightBuffer h → ⊥) → first_broken (header_rows h n) ≡ Err (given_at 9 0)
   unfolding row9
   buffer_nonsense begun there wrong = by (row9 h).broken refl
     where
-      by : (b : Bool) → (row9 h).broken ≡ b → first_broken (header_rows h n) ≡ Refused (given_at 9 0)
+      by : (b : Bool) → (row9 h).broken ≡ b → first_broken (header_rows h n) ≡ Err (given_at 9 0)
       by true broken = then_broken there_rows (row9 h) _ (there_passed begun there) broken
       by false kept = absurd (wrong (buffer_right h n [] (sym (then_rest there_rows (row9 h ∷ []) (there_passed begun there)) ∙ one_kept (row9 h) kept)))
 
 module _ (h : Header) (n k : ℕ) where
   -- 26 is given where bytes are missing
-  given-at : (rows more : List Row) (end : ℕ) → Accepted rows → Missing n k end → first_broken (rows ++ (row26 end n ∷ more)) ≡ Refused (given_at 26 k)
+  given-at : (rows more : List Row) (end : ℕ) → Accepted rows → Missing n k end → first_broken (rows ++ (row26 end n ∷ more)) ≡ Err (given_at 26 k)
   unfolding row26
   given-at rows more end passed missing =
       let place : end - n ≡ k = omega (arith, missing) in
-      then_broken rows (row26 end n) more passed (lt-ltb n end (omega (arith, missing))) ∙ ap (λ (j : ℕ). Refused (given_at 26 j)) place
+      then_broken rows (row26 end n) more passed (lt-ltb n end (omega (arith, missing))) ∙ ap (λ (j : ℕ). Err (given_at 26 j)) place
 
-  pub short_given : CutShort h n k → first_broken (header_rows h n) ≡ Refused (given_at 26 k)
+  pub short_given : CutShort h n k → first_broken (header_rows h n) ≡ Err (given_at 26 k)
   short_given cut = by cut.1
     where
-      by : MissedEnd h n k → first_broken (header_rows h n) ≡ Refused (given_at 26 k)
+      by : MissedEnd h n k → first_broken (header_rows h n) ≡ Err (given_at 26 k)
       by (inl (right, missing)) = given-at (start_rows h n) _ (registry_end h) (start_passed h n cut.0 right) missing
       by (inr (there, right, missing)) = given-at (layout_rows h n) _ (buffer_end h) (layout_passed h n cut.0 there right) missing
 
   -- and where it is given, it says which end is missed, and by how much
-  pub given_short : first_broken (header_rows h n) ≡ Refused (given_at 26 k) → CutShort h n k
+  pub given_short : first_broken (header_rows h n) ≡ Err (given_at 26 k) → CutShort h n k
   unfolding first_broken open_rows
   given_short refused = (
     passed_before (before_ends h n) (row7 h ∷ []) start,
@@ -114,11 +114,11 @@ module _ (h : Header) (n k : ℕ) where
       start : Accepted (start_rows h n)
       start = front_without (start_rows h n) (row26 (registry_end h) n ∷ row8 h ∷ row9 h ∷ row26 (buffer_end h) n ∷ row10 h ∷ []) (given_at 26 k) refused refl
 
-      place : {j : ℕ} → Refused (given_at 26 j) ≡ Refused (given_at 26 k) → j ≡ k
+      place : {j : ℕ} → ◌≡◌ {A = Verdict} (Err (given_at 26 j)) (Err (given_at 26 k)) → j ≡ k
       place {j} said = let same : given_at 26 j ≡ given_at 26 k = cc in ap (λ (f : Refusal). f.place) same
 
       by : (r b : Bool) → ltb n (registry_end h) ≡ r → ltb n (buffer_end h) ≡ b
-          → cond r (Refused (given_at 26 (registry_end h - n))) (cond b (Refused (given_at 26 (buffer_end h - n))) Passed) ≡ Refused (given_at 26 k)
+          → cond {A = Verdict} r (Err (given_at 26 (registry_end h - n))) (cond b (Err (given_at 26 (buffer_end h - n))) (Ok tt)) ≡ Err (given_at 26 k)
           → MissedEnd h n k
       by true b before behind said = let below = ltb-true n (registry_end h) before in inl (registry_right h n [] start, omega (arith, place said))
       by false true before behind said =

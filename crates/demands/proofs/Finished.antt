@@ -1,4 +1,5 @@
 -- Where rows 1 to 10 pass and all entries and slots have come, what they have shown says the same as rows 11 to 13, and the event count.
+use Rattle.std.specs.Prelude.{Err, Ok}
 use Prim.Native.Nat.{ℕ, ◌+◌, ◌*◌, ◌≤◌, ◌<◌}
 use mathlib.Core.Bool.{Bool, true, false, not, cond, ◌&&◌}
 use mathlib.Core.List.{List, [], ◌∷◌, ◌++◌}
@@ -11,11 +12,9 @@ use Rattle.pieces.specs.Body.{body_rows, in_registry, out_of_turn}
 use Rattle.pieces.specs.declared.parts.Body.{Body}
 use Rattle.rows.proofs.Rows.{among, unbroken}
 use Rattle.rows.specs.Lowest.{lowest}
-use Rattle.rows.specs.Rows.{Row, first_broken, row_at}
-use Rattle.rows.specs.declared.Verdict.{Verdict}
-use Rattle.rows.specs.declared.Verdict.TheVariants.{Passed, Refused}
+use Rattle.rows.specs.Rows.{Row, first_broken, row_at, Verdict, answer_by}
 use Rattle.trace.proofs.Passed.{current_within, entries_end, entry_within, slot_within, slots_start, slots_within}
-use Rattle.trace.specs.Check.{checked_by}
+use Rattle.trace.specs.Check.{sound_dump}
 use Rattle.trace.specs.Layout.{buffer_start, current_slot, entry_count, geometry_of, slot_count, slot_size}
 use Rattle.trace.specs.Registry.{is_wanted, is_wanted_at}
 use Rattle.trace.specs.Slots.{event_count, event_id_at, is_at_fault, is_fault, is_used, is_used_at}
@@ -28,7 +27,7 @@ use Rattle.demands.proofs.Bodies.{After, Shown, entry_here, entry_place, slot_he
 use Rattle.demands.proofs.OutOfTurn.{count_is, turn_is}
 
 module _ (d : List ℕ) (h : Header) (b : Body) (same : b.geometry ≡ geometry_of h) (after : After h.order d b (length d))
-    (passed : first_broken (header_rows h (length d)) ≡ Passed) where
+    (passed : first_broken (header_rows h (length d)) ≡ Ok tt) where
   -- the slots start where the entries end
   starts : entry_place (geometry_of h) (entry_count h) ≡ buffer_start h
   starts = entries_end h (length d) _ passed ∙ sym (slots_start h (length d) _ passed)
@@ -108,15 +107,15 @@ module _ (d : List ℕ) (h : Header) (b : Body) (same : b.geometry ≡ geometry_
       ∷ row_at 13 (ltb (no_id i) (same i).slots) (no_id i)
       ∷ []
 
-  events : first_broken (dump_rows d h) ≡ Passed → b.slots.unused ≡ event_count d h
+  events : first_broken (dump_rows d h) ≡ Ok tt → b.slots.unused ≡ event_count d h
   unfolding row12
   events sound =
       unused
       ∙ sym (count_is (is_used d h) (λ i. event_id_at h.order d (buffer_start h + i * slot_size h)) (slot_count h) (current_slot h) (current_within h (length d) [] passed) (ltb-false (lowest (is_at_fault OutOfTurn d h) (slot_count h)) (slot_count h) (unbroken sound (row12 d h) (search among depth 20))))
 
-  pub whole_answer : checked_by (first_broken (header_rows h (length d) ++ body_rows b)) h b.slots.unused ≡ checked_by (first_broken (dump_rows d h)) h (event_count d h)
-  whole_answer = ap (λ (rows : List Row). checked_by (first_broken (header_rows h (length d) ++ rows)) h b.slots.unused) rows_are ∙ by (first_broken (dump_rows d h)) refl
+  pub whole_answer : answer_by (first_broken (header_rows h (length d) ++ body_rows b)) (sound_dump h b.slots.unused) ≡ answer_by (first_broken (dump_rows d h)) (sound_dump h (event_count d h))
+  whole_answer = ap (λ (rows : List Row). answer_by (first_broken (header_rows h (length d) ++ rows)) (sound_dump h b.slots.unused)) rows_are ∙ by (first_broken (dump_rows d h)) refl
     where
-      by : (v : Verdict) → first_broken (dump_rows d h) ≡ v → checked_by v h b.slots.unused ≡ checked_by v h (event_count d h)
-      by (Refused f) said = refl
-      by Passed said = ap (checked_by Passed h) (events said)
+      by : (v : Verdict) → first_broken (dump_rows d h) ≡ v → answer_by v (sound_dump h b.slots.unused) ≡ answer_by v (sound_dump h (event_count d h))
+      by (Err f) said = refl
+      by (Ok tt) said = ap (λ (n : ℕ). answer_by (Ok tt) (sound_dump h n)) (events said)

@@ -1,4 +1,5 @@
 -- A history leaves a sound buffer: write number j is in slot j modulo the number of slots, until the ring comes round to it again.
+use Rattle.std.specs.Prelude.{Err, Ok}
 use Prim.Native.Nat.{ℕ, suc, ◌+◌, ◌/◌, ◌%◌, ◌≤◌, ◌<◌, min}
 use mathlib.Core.Bool.{Bool, true, false, cond}
 use mathlib.Core.List.{List, [], ◌∷◌, ◌++◌, append_assoc, append-nil}
@@ -10,17 +11,14 @@ use borrow.Author.Tests.{eqb-true, eqb-false}
 use lib.Dec.{eqb}
 use lib.ListN.{get_or, length, length-append, get_or-append}
 use lib.Seq.{get_or-append-add}
-use Rattle.rows.specs.Rows.{first_broken}
-use Rattle.rows.specs.declared.Verdict.{Verdict}
-use Rattle.rows.specs.declared.Verdict.TheVariants.{Passed, Refused}
-use Rattle.trace.specs.Check.{check_of}
+use Rattle.rows.specs.Rows.{first_broken, Verdict, answer_by}
+use Rattle.trace.specs.Check.{check_of, sound_dump}
 use Rattle.trace.specs.Layout.{header_of, current_slot, slot_at, slot_count}
 use Rattle.trace.specs.Slots.{slot_in}
-use Rattle.trace.specs.declared.Checked.TheVariants.{Sound}
 use Rattle.words.specs.Each.{Each}
 use Rattle.writing.proofs.Moved.{moved_size}
 use Rattle.writing.specs.Keeping.{SameEvents}
-use Rattle.writing.specs.Writing.{altered, outcome_by, cut, formatting, next_slot, recording, registering, removing}
+use Rattle.writing.specs.Writing.{altered, cut, formatting, next_slot, recording, registering, removing}
 use Rattle.demands.specs.History.{Call, DoesNotFormat, NoneFormats, Typed, Write, accepted_writes, after, format, given, if_accepted, left_by, read, register, remove, write, writes_by}
 use Rattle.demands.specs.Writings.{Recorded}
 use Rattle.demands.proofs.Answers.{refused_is}
@@ -55,14 +53,14 @@ no_write = record { pointer = 0; field = 0; id = 0; time = 0; first = 0; second 
 pub record Holds (n mask : ℕ) (ws : List Write) (t : List ℕ) : Type 0 where
   pub slots : slot_count (header_of t) ≡ n
   pub mask_is : (header_of t).mask ≡ mask
-  pub sound : check_of t ≡ Sound (header_of t) (min (length ws) n)
+  pub sound : check_of t ≡ Ok (sound_dump (header_of t) (min (length ws) n))
   pub current : current_slot (header_of t) ≡ length ws % n
   pub words : (j : ℕ) → j < length ws → length ws ≤ j + n → slot_in (header_of t).order t (slot_at (header_of t) (j % n)) ≡ cut (header_of t) (given (get_or ws j no_write))
 
 module _ (n mask : ℕ) (some : 0 < n) where
   -- a call that keeps the header and the events
   events_hold : (ws : List Write) (s t : List ℕ) → header_of t ≡ header_of s → SameEvents s t (header_of s)
-      → (check_of s ≡ Sound (header_of s) (min (length ws) n) → check_of t ≡ Sound (header_of s) (min (length ws) n))
+      → (check_of s ≡ Ok (sound_dump (header_of s) (min (length ws) n)) → check_of t ≡ Ok (sound_dump (header_of s) (min (length ws) n)))
       → Holds n mask ws s → Holds n mask ws t
   events_hold ws s t header events sound holds = record {
     slots = rw header holds.slots;
@@ -95,7 +93,7 @@ module _ (n mask : ℕ) (some : 0 < n) where
     write_holds = record {
       slots = rw (leaves.header, moved_size (header_of s) (next_slot (header_of s))) holds.slots;
       mask_is = rw leaves.header holds.mask_is;
-      sound = leaves.sound (min (length ws) n) holds.sound ∙ ap (Sound (header_of t)) (rw (one_longer, holds.slots) (omega arith));
+      sound = leaves.sound (min (length ws) n) holds.sound ∙ ap (λ (n : ℕ). Ok (sound_dump (header_of t) n)) (rw (one_longer, holds.slots) (omega arith));
       current = leaves.moved ∙ rw (holds.current, holds.slots, one_longer) (next_is (length ws) n some);
       words = λ j below near. rw (leaves.header, moved_size (header_of s) (next_slot (header_of s))) (words_now j (rw one_longer at below) (rw one_longer at near));
     }
@@ -106,21 +104,21 @@ module _ (n mask : ℕ) (some : 0 < n) where
   call_holds (write w) ws s words none holds = by (first_broken (recording (given w) s).rows) refl
     where
       by : (v : Verdict) → first_broken (recording (given w) s).rows ≡ v
-          → Holds n mask (ws ++ if_accepted (outcome_by v (recording (given w) s).gives) w) (altered v (recording (given w) s).leaves s)
-      by (Refused f) e = rw append-nil holds
-      by Passed e = write_holds ws w s (recording (given w) s).leaves (rw e at (recording_leaves (given w) s words e)) holds
+          → Holds n mask (ws ++ if_accepted (answer_by v (recording (given w) s).gives) w) (altered v (recording (given w) s).leaves s)
+      by (Err f) e = rw append-nil holds
+      by (Ok tt) e = write_holds ws w s (recording (given w) s).leaves (rw e at (recording_leaves (given w) s words e)) holds
   call_holds (register object name) ws s word none holds = rw append-nil (by (first_broken (registering object name s).rows) refl)
     where
       by : (v : Verdict) → first_broken (registering object name s).rows ≡ v → Holds n mask ws (altered v (registering object name s).leaves s)
-      by (Refused f) e = holds
-      by Passed e =
+      by (Err f) e = holds
+      by (Ok tt) e =
           let leaves = registering_leaves object name s word e in
           events_hold ws s (registering object name s).leaves (rw e at leaves.header) (rw e at leaves.events) (rw e at (leaves.sound (min (length ws) n))) holds
   call_holds (remove pointer) ws s typed none holds = rw append-nil (by (first_broken (removing pointer s).rows) refl)
     where
       by : (v : Verdict) → first_broken (removing pointer s).rows ≡ v → Holds n mask ws (altered v (removing pointer s).leaves s)
-      by (Refused f) e = holds
-      by Passed e =
+      by (Err f) e = holds
+      by (Ok tt) e =
           let leaves = removing_leaves pointer s e in
           events_hold ws s (removing pointer s).leaves (rw e at leaves.header) (rw e at leaves.events) (rw e at (leaves.sound (min (length ws) n))) holds
   call_holds (format f) ws s typed (fault, refused) holds = rw (append-nil, refused_is (first_broken (formatting f s).rows) _ fault refused) holds

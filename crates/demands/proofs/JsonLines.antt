@@ -1,8 +1,8 @@
 -- Each line is an object of RFC 8259 with the members of document 01: it is that of its parts.
+use Rattle.std.specs.Prelude.{None, Option, Some}
 use Prim.Native.Nat.{ℕ, ◌+◌, ◌*◌, ◌<◌}
 use mathlib.Core.Bool.{Bool, true, false, and-eq-true_iff, not, ◌&&◌}
 use mathlib.Core.List.{List, [], ◌∷◌, map}
-use mathlib.Core.Option.{Option, none, some}
 use mathlib.Core.Path.{◌≡◌, refl, sym, ap, ◌∙◌}
 use native.Mathlib.Decide.{dec_lt}
 use native.Mathlib.Omega.{arith}
@@ -20,8 +20,8 @@ use Rattle.text.specs.declared.Context.{Context}
 use Rattle.text.specs.declared.Context.TheVariants.{Init, Isr, Thread}
 use Rattle.text.specs.declared.Line.{Line}
 use Rattle.trace.specs.Names.{file_bytes, name_bytes}
+use Rattle.trace.specs.declared.Name.TheVariants.{Filed, Named}
 use Rattle.trace.specs.declared.Name.{Name}
-use Rattle.trace.specs.declared.Name.TheVariants.{Filed, Named, Nameless}
 use Rattle.words.specs.Each.{Each}
 use Rattle.words.specs.Words.{AreBytes}
 use Rattle.demands.specs.Json.{json_text, object}
@@ -44,14 +44,14 @@ gone-text false = refl
 
 parts_named : (l : Line) (event : Option (Option (List ℕ))) (n : Option (List ℕ)) → IsTitle event → IsName n → Each NamedPart (parts l event n)
 unfolding event_parts parts
-parts_named l none n titled is = search
-parts_named l (some title) n titled is = search
+parts_named l None n titled is = search
+parts_named l (Some title) n titled is = search
 
 -- the members are the parts', with an event's name and without
 parts_are : (l : Line) (event : Option (Option (List ℕ))) (n : Option (List ℕ)) → map member_of (parts l event n) ≡ line_members l event n
 unfolding event_parts parts value_text
-parts_are l none n = rw (← context_text l.by, ← gone-text l.gone)
-parts_are l (some title) n = rw (← context_text l.by, ← gone-text l.gone)
+parts_are l None n = rw (← context_text l.by, ← gone-text l.gone)
+parts_are l (Some title) n = rw (← context_text l.by, ← gone-text l.gone)
 
 line_object : (l : Line) (event : Option (Option (List ℕ))) (n : Option (List ℕ)) → IsTitle event → IsName n → IsObject l event n (line l event n)
 unfolding line object_text json_text
@@ -93,8 +93,8 @@ all_new (a ∷ more) test =
     (new a more tests.0, all_new more tests.1)
 
 names_distinct : (l : Line) (event : Option (Option (List ℕ))) (n : Option (List ℕ)) → Distinct (map (λ m. m.name) (line_members l event n))
-names_distinct l none n = all_new (map (λ m. m.name) (line_members l none n)) refl
-names_distinct l (some title) n = all_new (map (λ m. m.name) (line_members l (some title) n)) refl
+names_distinct l None n = all_new (map (λ m. m.name) (line_members l None n)) refl
+names_distinct l (Some title) n = all_new (map (λ m. m.name) (line_members l (Some title) n)) refl
 
 -- a name in a dump or in a name file is of bytes
 part_bytes : (s : List ℕ) (at size : ℕ) → AreBytes s → AreBytes (take size (drop at s))
@@ -105,19 +105,19 @@ part_bytes s at size bytes i = by (dec_lt i size)
     by (no past) = rw (get_or-eq_default (take size (drop at s)) 0 {n = i} (rw length-take (omega arith))) (omega arith)
 
 module _ (file : Option (List ℕ)) (s : List ℕ) (of-dump : AreBytes s) (of-file : AreBytes (file_bytes file)) where
-  name-bytes : (n : Name) → IsName (name_bytes file s n)
+  name-bytes : (n : Option Name) → IsName (name_bytes file s n)
   unfolding name_bytes
-  name-bytes Nameless = tt
-  name-bytes (Named kind at size) = part_bytes s at size of-dump
-  name-bytes (Filed at size) = part_bytes (file_bytes file) at size of-file
+  name-bytes None = tt
+  name-bytes (Some (Named kind at size)) = part_bytes s at size of-dump
+  name-bytes (Some (Filed at size)) = part_bytes (file_bytes file) at size of-file
 
   title_bytes : (e : Event) → IsTitle (title_in file s e)
   unfolding title_in
   title_bytes e = by file (name-bytes e.title)
     where
       by : (given : Option (List ℕ)) → IsName (name_bytes given s e.title) → IsTitle (title_in given s e)
-      by none is = tt
-      by (some f) is = is
+      by None is = tt
+      by (Some f) is = is
 
 pub json_lines : JsonLines
 unfolding line_of

@@ -1,8 +1,8 @@
 -- What a reader of JSON finds in a line, and in a listing, as numbers: the digits of those that are bare, in their order.
+use Rattle.std.specs.Prelude.{None, Option, Some}
 use Prim.Native.Nat.{ℕ, zero, suc, ◌/◌, ◌%◌}
 use mathlib.Core.Bool.{Bool, true, false, cond}
 use mathlib.Core.List.{List, [], ◌∷◌, ◌++◌, append_assoc, append-nil, map, map-append}
-use mathlib.Core.Option.{Option, none, some}
 use mathlib.Core.Path.{◌≡◌, refl, ◌∙◌}
 use native.Mathlib.Omega.{arith}
 use Rattle.events.specs.Events.{event_at}
@@ -57,8 +57,8 @@ escaped_passed (b ∷ bytes) rest = rw (append_assoc (escape b) (escaped bytes) 
 
 name_read : (n : Option (List ℕ)) → Has (name n) []
 unfolding name quoted
-name_read none = literal_has json.null
-name_read (some bytes) = quotes (escaped bytes) (escaped_passed bytes)
+name_read None = literal_has json.null
+name_read (Some bytes) = quotes (escaped bytes) (escaped_passed bytes)
 
 -- values, parts, and a line
 numbers-read : (ns : List ℕ) → Has (separated (map number ns)) (bare ns)
@@ -96,8 +96,8 @@ object_numbers ps plain = whole (object_read ps plain)
 -- the numbers of a line are those of its parts, with an event's name and without
 pub numbers_are : (l : Line) (event : Option (Option (List ℕ))) (n : Option (List ℕ)) → numbers_in (parts l event n) ≡ numbers_of l
 unfolding event_parts parts numbers_in
-numbers_are l none n = refl
-numbers_are l (some title) n = refl
+numbers_are l None n = refl
+numbers_are l (Some title) n = refl
 
 line_read : (l : Line) (event : Option (Option (List ℕ))) (n : Option (List ℕ)) → Has (line l event n) (bare (numbers_of l))
 unfolding line

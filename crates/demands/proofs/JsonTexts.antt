@@ -1,9 +1,9 @@
 -- Whatever parts are in an object, each is a member by RFC 8259, where labels and words are plain and names are of bytes.
+use Rattle.std.specs.Prelude.{None, Option, Some}
 use Prim.Native.Nat.{ℕ, zero, suc, ◌/◌, ◌%◌, ◌≤◌, ◌<◌}
 use mathlib.Core.Bool.{Bool, true, false}
 use mathlib.Core.List.{List, [], ◌∷◌, ◌++◌, append_assoc, append-nil, map}
 use mathlib.Core.Logic.{inl, inr}
-use mathlib.Core.Option.{Option, none, some}
 use mathlib.Core.Path.{◌≡◌, refl, sym, ap, ◌∙◌}
 use native.Mathlib.Omega.{arith}
 use Rattle.text.proofs.Digits.{by_tenths, digits_more, digits_one}
@@ -86,8 +86,8 @@ number_written n = by (is_bare n)
 
 name_written : (n : Option (List ℕ)) → IsName n → Written (name n)
 unfolding name quoted json_text
-name_written none is = (json.literal json.null, refl)
-name_written (some bytes) is = (json.string (json.string_of (escaped_chars bytes is)), refl)
+name_written None is = (json.literal json.null, refl)
+name_written (Some bytes) is = (json.string (json.string_of (escaped_chars bytes is)), refl)
 
 number_values : List ℕ → Values
 number_values [] = json.no_value

@@ -1,4 +1,5 @@
 -- What is said of mending holds, by the laws of its steps (`mending`): of each slot and entry of the copy, of its rows and its events.
+use Rattle.std.specs.Prelude.{Ok}
 use Prim.Native.Nat.{ℕ, ◌+◌, ◌-◌, ◌*◌, ◌/◌, ◌≤◌, ◌<◌}
 use mathlib.Core.Bool.{Bool, true, false, cond, not, ◌&&◌, ◌||◌, and-eq-true_iff}
 use mathlib.Core.List.{List, [], ◌∷◌, ◌++◌}
@@ -17,39 +18,30 @@ use Rattle.mending.proofs.Slots.{after_length, gone_fault, missing_zeros, no_id_
 use Rattle.mending.proofs.Sound.{again_copy, again_repairs, copy_passes, sound_copy, sound_repairs}
 use Rattle.mending.proofs.Turned.{packed_zeros}
 use Rattle.mending.specs.Kept.{is_kept_at, kept_slots}
-use Rattle.mending.specs.Mending.{after_ids, after_types, copy_of, mend_of, mended_by, mended_told, mending_rows, repairs_of}
+use Rattle.mending.specs.Mending.{after_ids, after_types, copy_of, mend_of, mended_told, mending_rows, repairs_of, mended_copy}
 use Rattle.mending.specs.Steps.{current_mended, is_missing, is_out_of_turn, moved_of, sound_current}
-use Rattle.mending.specs.declared.Mended.TheVariants.{Copied}
-use Rattle.mending.specs.declared.Repairs.{Repairs}
 use Rattle.rows.proofs.Lowest.{count_same, lowest_same}
 use Rattle.rows.proofs.Rows.{one_kept, passed_before, then_rest}
 use Rattle.rows.specs.Lowest.{lowest}
 use Rattle.rows.specs.Rows.{Accepted, Row, first_broken}
-use Rattle.rows.specs.declared.Verdict.{Verdict}
-use Rattle.rows.specs.declared.Verdict.TheVariants.{Passed, Refused}
 use Rattle.trace.proofs.Checks.{check_passed}
 use Rattle.trace.proofs.Passed.{registry_passed, slot_some}
 use Rattle.trace.proofs.SameBytes.{alike_slot}
-use Rattle.trace.specs.Check.{check_of}
+use Rattle.trace.specs.Check.{check_of, sound_dump}
 use Rattle.trace.specs.Layout.{buffer_end, buffer_start, current_slot, header_of, slot_at, slot_count, slot_size, with_current}
 use Rattle.trace.specs.Names.{find_name, name_if_entry, name_of, thread_name}
 use Rattle.trace.specs.Ring.{from_current, keep, numbers_from, oldest_first, slot_of}
 use Rattle.trace.specs.Slots.{event_id, is_at_fault, is_fault, is_used}
 use Rattle.trace.specs.Table.{layout_rows, row10, row12, row16}
-use Rattle.trace.specs.declared.Checked.TheVariants.{Sound}
 use Rattle.trace.specs.declared.Fault.TheVariants.{NoId, OutOfTurn}
-use Rattle.trace.specs.declared.Found.TheVariants.{Searched}
 use Rattle.trace.specs.declared.Header.{Header}
 use Rattle.writing.proofs.Moved.{current_size, moved_slot}
 use Rattle.writing.specs.Keeping.{KeepsBytes}
+use Rattle.demands.proofs.Answers.{answer_is}
+use Rattle.mending.specs.declared.Mended.{Mended}
 use Rattle.demands.specs.Mending.{InPlace, Mending, Mends, Packed, are_out, came_of, first_slot, is_whole, lacks_id, no_repairs}
 
--- an accepted answer: the rows have passed, and its values are those of the definitions
-copied_is : (v : Verdict) (m n : ℕ) (q r : Repairs) → mended_by v m q ≡ Copied n r → (v ≡ Passed) × (n ≡ m) × (r ≡ q)
-copied_is (Refused f) m n q r e = (cc, cc, cc)
-copied_is Passed m n q r e = (refl, cc, cc)
-
-module _ (s : List ℕ) (more : List Row) (passed : first_broken (layout_rows (header_of s) (length s) ++ more) ≡ Passed) where
+module _ (s : List ℕ) (more : List Row) (passed : first_broken (layout_rows (header_of s) (length s) ++ more) ≡ Ok tt) where
   abbrev h : Header
   h = header_of s
 
@@ -153,18 +145,18 @@ module _ (s : List ℕ) (more : List Row) (passed : first_broken (layout_rows (h
   room : buffer_end h ≤ length t
   room = omega (arith, copy_length s h)
 
-  passes : check_of t ≡ Sound (header_of t) (length (came_of s))
+  passes : check_of t ≡ Ok (sound_dump (header_of t) (length (came_of s)))
   unfolding check_of
-  passes = rw (copy_passes s more passed, header_is) (ap (Sound (with_current h (copy_current s h))) (copy_count s h more passed ∙ count_is))
+  passes = rw (copy_passes s more passed, header_is) (ap (λ (n : ℕ). Ok (sound_dump (with_current h (copy_current s h)) n)) (copy_count s h more passed ∙ count_is))
 
   same_event : (p : ℕ) → p < length (came_of s) → (k : ℕ) → k < slot_size h → get_or t (slot_at h (slot_of t (header_of t) p) + k) 0 ≡ get_or s (slot_at h (get_or (came_of s) p 0) + k) 0
   same_event p below k within = rw header_is (rw came_is at (copy_slot s h more passed p (rw count_is below) k within))
 
-  names : (pointer : ℕ) → (find_name t pointer ≡ Searched (name_of s h pointer)) × KeepsBytes s t (name_of s h pointer)
+  names : (pointer : ℕ) → (find_name t pointer ≡ Ok (name_of s h pointer)) × KeepsBytes s t (name_of s h pointer)
   unfolding find_name name_of name_if_entry thread_name
   names pointer =
       let same = copy_names s h more passed t room (registry_bytes s h more passed) pointer in
-      (rw (registry_passed t (header_of t) (copy_passes s more passed)) (ap Searched (ap (λ (f : Header). name_of t f pointer) header_is ∙ same.0)), same.1)
+      (rw (registry_passed t (header_of t) (copy_passes s more passed)) (ap Ok (ap (λ (f : Header). name_of t f pointer) header_is ∙ same.0)), same.1)
 
   pub mends : Mends s t h (repairs_of s h)
   unfolding repairs_of moved_of
@@ -189,7 +181,7 @@ module _ (s : List ℕ) (more : List Row) (passed : first_broken (layout_rows (h
   }
 
 -- where the rows before 16 have passed and there is room, all have
-with_room : (s : List ℕ) (h : Header) (room : ℕ) → first_broken (layout_rows h (length s)) ≡ Passed → buffer_end h ≤ room → Accepted (mending_rows s h room)
+with_room : (s : List ℕ) (h : Header) (room : ℕ) → first_broken (layout_rows h (length s)) ≡ Ok tt → buffer_end h ≤ room → Accepted (mending_rows s h room)
 unfolding row16
 with_room s h room passed fits =
     sym (then_rest (layout_rows h (length s)) (row16 (buffer_end h) room ∷ []) passed) ∙ one_kept (row16 (buffer_end h) room) (le-ltb room (buffer_end h) fits)
@@ -199,8 +191,9 @@ unfolding mend_of mended_told
 mending = record {
   reports = λ n r. refl;
   gives = λ s old n r copied.
-      let is = copied_is (first_broken (mending_rows s (header_of s) (length old))) (buffer_end (header_of s)) n (repairs_of s (header_of s)) r copied in
-      (is.1 ∙ sym (copy_length s (header_of s)), is.2, rw (is.0, is.1, copy_length s (header_of s)));
+      let is = answer_is (first_broken (mending_rows s (header_of s) (length old))) (mended_copy (buffer_end (header_of s)) (repairs_of s (header_of s))) (mended_copy n r) copied in
+      let long : n ≡ buffer_end (header_of s) = ap (λ (m : Mended). m.length) is.1 in
+      (long ∙ sym (copy_length s (header_of s)), ap (λ (m : Mended). m.repairs) is.1, rw (is.0, long, copy_length s (header_of s)));
   mends = λ s room accepted. mends s (row16 (buffer_end (header_of s)) room ∷ []) accepted;
   sound = λ s h n room sound fits.
       let passed = check_passed s h n sound in
@@ -211,7 +204,7 @@ mending = record {
       let copy = copy_of s (header_of s) in
       let end : buffer_end (header_of copy) ≡ length copy = rw (copy_header s rest accepted) (sym (copy_length s (header_of s))) in
       let rows = with_room copy (header_of copy) more (passed_before (layout_rows (header_of copy) (length copy)) _ (copy_passes s rest accepted)) (rw end fits) in
-      (rw (rows, again_repairs s rest accepted) (ap (λ (n : ℕ). Copied n no_repairs) end), again_copy s rest accepted);
+      (rw (rows, again_repairs s rest accepted) (ap (λ (n : ℕ). Ok (mended_copy n no_repairs)) end), again_copy s rest accepted);
   cut = λ s h m n room sound there fits.
       let passed = check_passed s h m sound in
       let header = cut_header s n passed there in

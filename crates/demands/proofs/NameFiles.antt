@@ -1,9 +1,9 @@
 -- Name files: the records that start are those that are counted; records written one after another are one run of bytes, read back record by record; a file changes a line only where the dump gives no name.
+use Rattle.std.specs.Prelude.{Err, None, Ok, Option, Some}
 use Prim.Native.Nat.{ℕ, zero, suc, ◌+◌, ◌^◌, ◌≤◌, ◌<◌}
 use mathlib.Core.Bool.{Bool, cond, false, true, not-eq-not, true≢false}
-use mathlib.Core.List.{List, [], ◌∷◌, ◌++◌, append-nil}
+use mathlib.Core.List.{List, [], ◌∷◌, ◌++◌}
 use mathlib.Core.Logic.{◌⊎◌, inl, inr}
-use mathlib.Core.Option.{Option, none, some}
 use mathlib.Core.Path.{◌≡◌, refl, sym, ap, ap₂, ◌∙◌}
 use native.Mathlib.Omega.{arith}
 use borrow.Author.Tests.{le-ltb, lt-ltb, ltb-true}
@@ -13,11 +13,12 @@ use Rattle.events.specs.Events.{event_at, event_in, name_for}
 use Rattle.events.specs.Listing.{fields, line_at, line_of, title_in}
 use Rattle.events.specs.declared.Event.{Event}
 use Rattle.events.specs.declared.Reading.{Reading}
+use Rattle.naming.proofs.Finding.{without_file}
 use Rattle.naming.proofs.Accepted.{damaged_refused, faulty_hit, hit_faulty, refused_at, whole_accepted}
 use Rattle.naming.proofs.Named.{filed_has, has_name, is_sought, name_begins, name_ends, name_within, no_name, record_not_gone, sought_is}
 use Rattle.naming.proofs.ReadBack.{damaged_behind, name_or_behind, record_length}
 use Rattle.naming.proofs.Records.{count_inside, inside_count, records_order}
-use Rattle.naming.specs.Finding.{find_name_with, name_with}
+use Rattle.naming.specs.Finding.{name_with}
 use Rattle.naming.specs.Records.{end_at, first_record, has_record, is_sought_at, kind_of, name_in, record_at, record_count, record_name, row27}
 use Rattle.naming.specs.Writing.{record_bytes, record_size, row28}
 use Rattle.naming.specs.declared.Sought.{Sought}
@@ -32,19 +33,17 @@ use Rattle.text.specs.declared.Context.{Context}
 use Rattle.text.specs.declared.Context.TheVariants.{Init, Isr, Thread}
 use Rattle.trace.proofs.Chosen.{dump_bytes, first_chosen}
 use Rattle.trace.proofs.Opened.{open_check}
-use Rattle.trace.specs.Layout.{header_of}
-use Rattle.trace.specs.Names.{find_name, found_by, is_gone, name_bytes, name_of, or_else}
-use Rattle.trace.specs.Table.{registry_rows, row2, row16}
+use Rattle.trace.specs.Names.{is_gone, name_bytes, name_of, or_else}
+use Rattle.trace.specs.Table.{row2, row16}
 use Rattle.trace.specs.declared.Header.{Header}
+use Rattle.trace.specs.declared.Name.TheVariants.{Filed, Named}
 use Rattle.trace.specs.declared.Name.{Name}
-use Rattle.trace.specs.declared.Name.TheVariants.{Filed, Named, Nameless}
 use Rattle.trace.specs.declared.Slot.{Slot}
 use Rattle.words.proofs.Runs.{run_back, runs_join}
 use Rattle.words.specs.Each.{Each}
 use Rattle.writing.proofs.Filed.{filed}
 use Rattle.writing.proofs.Opened.{open_writing}
 use Rattle.writing.specs.Writing.{filing, left, said}
-use Rattle.writing.specs.declared.Outcome.TheVariants as outcome
 use Rattle.demands.proofs.FileChecks.{passed_by_file, refused_by_file}
 use Rattle.demands.specs.NameFiles.{AllWritten, IsDamaged, NameFiles, Naming, SameButNames, Starts, filed_for, first, first_written, is_of, next, sample, sample_records, total, written_from}
 
@@ -133,32 +132,32 @@ none_damaged [] short = refl
 none_damaged (r ∷ rs) short = damaged_behind r.subject r.number r.name (file_of rs) (omega arith) ∙ none_damaged rs (omega arith)
 
 names_back : (rs : List Naming) (dump : List ℕ) (wanted : Subject) (number : ℕ) → Each (λ r. r.number < 2 ^ 32) rs → total rs ≤ 65536
-    → name_bytes (some (file_of rs)) dump (record_name wanted (file_of rs) number) ≡ first_written wanted number rs
+    → name_bytes (Some (file_of rs)) dump (record_name wanted (file_of rs) number) ≡ first_written wanted number rs
 unfolding first_written lowest name_bytes record_name
 names_back [] dump wanted number small short = refl
 names_back (r ∷ rs) dump wanted number (small, rest) short =
     name_or_behind r.subject r.number r.name (file_of rs) (omega arith) small dump wanted number
-    ∙ ap (cond (is_of wanted number r) (some r.name)) (names_back rs dump wanted number rest (omega arith))
+    ∙ ap (cond (is_of wanted number r) (Some r.name)) (names_back rs dump wanted number rest (omega arith))
 
 -- a name with a file agrees with that without it: as to "gone", and in its bytes, unless there was none, and then it is the file's
 module _ (f s : List ℕ) (h : Header) where
-  abbrev Agrees : Name → Name → Name → Type 0
+  abbrev Agrees : Option Name → Option Name → Option Name → Type 0
   Agrees filed with-file without =
-      (is_gone with-file ≡ is_gone without) × ((name_bytes (some f) s with-file ≡ name_bytes none s without) ⊎ ((name_bytes none s without ≡ none) × (name_bytes (some f) s with-file ≡ name_bytes (some f) s filed)))
+      (is_gone with-file ≡ is_gone without) × ((name_bytes (Some f) s with-file ≡ name_bytes None s without) ⊎ ((name_bytes None s without ≡ None) × (name_bytes (Some f) s with-file ≡ name_bytes (Some f) s filed)))
 
-  agrees : (pointer : ℕ) → Agrees (record_name subject.Thread f pointer) (name_with (some f) s h pointer) (name_with none s h pointer)
+  agrees : (pointer : ℕ) → Agrees (record_name subject.Thread f pointer) (name_with (Some f) s h pointer) (name_with None s h pointer)
   unfolding name_bytes name_in name_with
-  agrees pointer = by (name_of s h pointer) (dump_bytes (some f) none s h pointer)
+  agrees pointer = by (name_of s h pointer) (dump_bytes (Some f) None s h pointer)
     where
-      filed : Name
+      filed : Option Name
       filed = record_name subject.Thread f pointer
 
-      by : (name : Name) → name_bytes (some f) s name ≡ name_bytes none s name → Agrees filed (or_else name filed) (or_else name Nameless)
-      by Nameless same = (record_not_gone f subject.Thread pointer, inr (refl, refl))
-      by (Named kind at size) same = (refl, inl same)
-      by (Filed at size) same = (refl, inl same)
+      by : (name : Option Name) → name_bytes (Some f) s name ≡ name_bytes None s name → Agrees filed (or_else name filed) (or_else name None)
+      by None same = (record_not_gone f subject.Thread pointer, inr (refl, refl))
+      by (Some (Named kind at size)) same = (refl, inl same)
+      by (Some (Filed at size)) same = (refl, inl same)
 
-  agrees_for : (by : Context) (slot : Slot) → Agrees (filed_for by f slot.pointer slot.field) (name_for by (some f) s h slot) (name_for by none s h slot)
+  agrees_for : (by : Context) (slot : Slot) → Agrees (filed_for by f slot.pointer slot.field) (name_for by (Some f) s h slot) (name_for by None s h slot)
   unfolding name_bytes name_for
   agrees_for Init slot = (refl, inl refl)
   agrees_for Isr slot = agrees slot.field
@@ -173,39 +172,30 @@ module _ (f s : List ℕ) (h : Header) where
     abbrev event : Option (List ℕ) → Event
     event file = event_at file s h position
 
-    same_fields : fields r position (event (some f)) ≡ fields r position (event none)
+    same_fields : fields r position (event (Some f)) ≡ fields r position (event None)
     unfolding event_in fields
     same_fields = rw (agrees_for _ _).0
 
-    same_line : SameButNames f s (line_at none s h r position) (line_at (some f) s h r position)
+    same_line : SameButNames f s (line_at None s h r position) (line_at (Some f) s h r position)
     unfolding event_in fields line_of name_in title_in
     same_line = record {
-      words = fields r position (event none);
-      name = name_bytes none s (event none).name;
-      name' = name_bytes (some f) s (event (some f)).name;
-      event = name_bytes (some f) s (event (some f)).title;
+      words = fields r position (event None);
+      name = name_bytes None s (event None).name;
+      name' = name_bytes (Some f) s (event (Some f)).name;
+      event = name_bytes (Some f) s (event (Some f)).title;
       before = refl;
-      after = ap (λ words. line words (some (name_bytes (some f) s (event (some f)).title)) (name_bytes (some f) s (event (some f)).name)) same_fields;
+      after = ap (λ words. line words (Some (name_bytes (Some f) s (event (Some f)).title)) (name_bytes (Some f) s (event (Some f)).name)) same_fields;
       kept = unless_none (agrees_for _ _).1;
       filed = (agrees_for _ _).1;
       titled = refl;
     }
-
-no-file : (s : List ℕ) (pointer : ℕ) → find_name_with none s pointer ≡ find_name s pointer
-unfolding find_name find_name_with name_in name_with
-no-file s pointer = ap₂ (λ rows name. found_by (first_broken rows) name) (append-nil (registry_rows s (header_of s))) (by (name_of s (header_of s) pointer))
-  where
-    by : (name : Name) → or_else name Nameless ≡ name
-    by Nameless = refl
-    by (Named kind at size) = refl
-    by (Filed at size) = refl
 
 -- the sample, as it is written and read
 sample_bytes : written_from 0 sample_records (replicate 21 0) ≡ sample
 unfolding open_writing kind_of
 sample_bytes = refl
 
-sample_named : (name_in subject.Event (some sample) 1025 ≡ Filed 8 2) × (name_in subject.Thread (some sample) 0x20002000 ≡ Filed 18 3)
+sample_named : (name_in subject.Event (Some sample) 1025 ≡ Some (Filed 8 2)) × (name_in subject.Thread (Some sample) 0x20002000 ≡ Some (Filed 18 3))
 unfolding open_check is_sought_at kind_of name_in record_at record_name
 sample_named = (refl, refl)
 
@@ -214,15 +204,15 @@ module _ (wanted : Subject) (number offset : ℕ) (name s : List ℕ) where
   abbrev end : ℕ
   end = offset + (8 + length name)
 
-  said_past_most : 65536 < end → said (filing wanted number name offset s) ≡ outcome.Refused (record { number = 28; place = 0 })
+  said_past_most : 65536 < end → said (filing wanted number name offset s) ≡ Err (record { number = 28; place = 0 })
   unfolding filing first_broken row28
   said_past_most past = rw (lt-ltb 65536 end past)
 
-  said_past_buffer : end ≤ 65536 → length s < end → said (filing wanted number name offset s) ≡ outcome.Refused (record { number = 16; place = 0 })
+  said_past_buffer : end ≤ 65536 → length s < end → said (filing wanted number name offset s) ≡ Err (record { number = 16; place = 0 })
   unfolding filing first_broken row16 row28
   said_past_buffer within past = rw (le-ltb 65536 end within, lt-ltb (length s) end past)
 
-  said_done : end ≤ 65536 → end ≤ length s → said (filing wanted number name offset s) ≡ outcome.Done (8 + length name)
+  said_done : end ≤ 65536 → end ≤ length s → said (filing wanted number name offset s) ≡ Ok (8 + length name)
   unfolding filing first_broken row16 row28
   said_done within room = rw (le-ltb 65536 end within, le-ltb (length s) end room)
 
@@ -255,7 +245,7 @@ name_files = record {
   empty_nameless = λ wanted number. refl;
   from_dump = λ file s h pointer named. sym (first_chosen (name_of s h pointer) _ named);
   from_file = λ file s h pointer nameless. rw nameless;
-  without_file = no-file;
+  without_file = without_file;
   written = λ rs s fits short. (one_run rs 0 s (omega arith) (omega arith)).0;
   written_accepted = λ rs s fits short.
       rw (file_is rs s fits short) (whole_accepted (file_of rs) (omega (arith, file_total rs)) (none_damaged rs short));

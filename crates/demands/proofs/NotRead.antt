@@ -1,9 +1,9 @@
 -- Dumps that differ only where nothing is read get the same answers: their headers are the same, and so is what rows 1 to 10 say and, where these pass, what is read of entries and slots.
+use Rattle.std.specs.Prelude.{Err, Ok, Result, Option}
 use Prim.Native.Nat.{ℕ, ◌+◌, ◌≤◌, ◌<◌, min}
 use mathlib.Core.Bool.{not}
 use mathlib.Core.List.{List, [], ◌∷◌, ◌++◌}
 use mathlib.Core.Logic.{◌⊎◌, inl, inr, ⊎_elim}
-use mathlib.Core.Option.{Option}
 use mathlib.Core.Path.{◌≡◌, refl, sym, ap, ap₂, ◌∙◌}
 use native.Mathlib.Decide.{dec_lt, ℕ_discrete}
 use native.Mathlib.Nat.{mul-le-mul_right, zero-add}
@@ -11,23 +11,20 @@ use native.Mathlib.Omega.{arith}
 use lib.Dec.{ltb}
 use lib.ListN.{get_or-append, get_or, length, length-append}
 use borrow.Author.Tests.{le-ltb}
-use Rattle.events.specs.Events.{event_at, event_of, event_rows, shown_by}
+use Rattle.events.specs.Events.{event_at, event_of, event_rows}
 use Rattle.events.specs.Listing.{Gave, line_at, listing_text, term_rows}
-use Rattle.events.specs.declared.Listed.{Listed}
 use Rattle.events.specs.declared.Reading.{Reading}
 use Rattle.naming.specs.Finding.{find_name_with, finding_rows, name_with}
 use Rattle.naming.specs.Records.{file_rows}
 use Rattle.rows.proofs.Rows.{then_same}
-use Rattle.rows.specs.Rows.{Row, first_broken, row, row_at}
+use Rattle.rows.specs.Rows.{Row, first_broken, row, row_at, Verdict, answer_by}
 use Rattle.rows.specs.declared.Refusal.{Refusal}
-use Rattle.rows.specs.declared.Verdict.{Verdict}
-use Rattle.rows.specs.declared.Verdict.TheVariants.{Passed, Refused}
 use Rattle.trace.proofs.Passed.{current_within, entries_before, parts_apart, slot_some, slot_within, slots_end}
 use Rattle.trace.proofs.SameDumps.{dump_same, events_same}
 use Rattle.trace.proofs.Opened.{open_rows}
-use Rattle.trace.specs.Check.{checked_by, check_of}
+use Rattle.trace.specs.Check.{check_of, sound_dump}
 use Rattle.trace.specs.Layout.{current_slot, entry_at, entry_count, entry_size, header_of, header_size, most_bytes, registry_end, slot_at, slot_count, slot_size}
-use Rattle.trace.specs.Names.{found_by, name_bytes, name_found, name_of, thread_entry}
+use Rattle.trace.specs.Names.{name_bytes, name_found, name_of, thread_entry}
 use Rattle.trace.specs.Slots.{event_count, slot_in}
 use Rattle.trace.specs.Table.{dump_rows, header_rows, row16, row25}
 use Rattle.trace.specs.declared.Header.{Header}
@@ -38,7 +35,6 @@ use Rattle.writing.proofs.SameRegistry.{RegistryKept, lowest_wanted, registry_ke
 use Rattle.trace.proofs.SameBytes.{SameBut, same_header, same_slot}
 use Rattle.writing.specs.Table.{lowest_entry, row19, row20, row21, row22, row23}
 use Rattle.writing.specs.Writing.{recording, registering, removing, said}
-use Rattle.writing.specs.Writing as writing
 use Rattle.demands.specs.EveryCall.{AllRefused}
 use Rattle.demands.specs.Names.{name_shown}
 use Rattle.demands.specs.NotRead.{DifferOnlyThere, NotRead, SameAnswers, Whole}
@@ -52,7 +48,7 @@ header_read h i below aside (inl (inr last)) = omega arith
 header_read h i below aside (inr (inl (entry, inside, two))) = omega arith
 header_read h i below aside (inr (inr past)) = omega arith
 
-module _ (h : Header) (n : ℕ) (passed : first_broken (header_rows h n) ≡ Passed) where
+module _ (h : Header) (n : ℕ) (passed : first_broken (header_rows h n) ≡ Ok tt) where
   entry_read : (i k : ℕ) → i < entry_count h → k < entry_size h → (k < 2) ⊎ (4 ≤ k) → NotRead h (entry_at h i + k) → ⊥
   entry_read i k below near aside (inl (inl two)) = omega arith
   entry_read i k below near aside (inl (inr last)) = omega arith
@@ -75,7 +71,7 @@ unfolding first_broken open_rows
 whole_same h m n (long, registry, buffer, short) (other-long, other-registry, other-buffer, other-short) = simp le-ltb
 
 -- of two calls that say the same and have the same text, what one gives the other gives
-gave_same : (rows more : List Row) (text other old new : List ℕ) (said : Listed) → first_broken more ≡ first_broken rows → other ≡ text
+gave_same : (rows more : List Row) (text other old new : List ℕ) (said : Result ℕ Refusal) → first_broken more ≡ first_broken rows → other ≡ text
     → Gave rows text old new said → Gave more other old new said
 gave_same rows more text other old new said say same gave = record { answered = rw (say, same) gave.answered; output = rw (say, same) gave.output }
 
@@ -107,7 +103,7 @@ module _ (s t : List ℕ) (there : DifferOnlyThere s t) where
   reach_same : SameReach s t (registry_end (header_of s))
   reach_same = ⊎_elim (ap (min _)) (λ whole. omega arith) there.size
 
-  module _ (passed : first_broken (header_rows (header_of s) (length s)) ≡ Passed) where
+  module _ (passed : first_broken (header_rows (header_of s) (length s)) ≡ Ok tt) where
     inside : current_slot (header_of s) < slot_count (header_of s)
     inside = current_within (header_of s) (length s) _ passed
 
@@ -152,11 +148,11 @@ module _ (s t : List ℕ) (there : DifferOnlyThere s t) where
     both_passed : SameAnswers s t
     unfolding check_of find_name_with event_of name_bytes recording registering removing row20 row21 row22
     both_passed = record {
-      check = λ k. checked_by (all_same k) (header_same k) (events k);
+      check = λ k. (answer_by (all_same k) (sound_dump (header_same k) (events k)));
       name = registry.names;
-      name-with = λ file pointer. ap₂ found_by (then_same _ _ {more = file_rows file} registry.rows refl) (name-with file pointer);
+      name-with = λ file pointer. ap₂ answer_by (then_same _ _ {more = file_rows file} registry.rows refl) (name-with file pointer);
       name_with_bytes = λ file pointer. found_bytes file pointer (first_broken (finding_rows file s (header_of s)));
-      event = λ file p. ap₂ shown_by (then_same _ _ all_same (λ k. file_rows file ++ (row25 p (events k) ∷ []))) (event-at file p);
+      event = λ file p. ap₂ answer_by (then_same _ _ all_same (λ k. file_rows file ++ (row25 p (events k) ∷ []))) (event-at file p);
       event_name = λ file p. name-bytes file p (first_broken (event_rows file s (header_of s) p));
       listing = λ file r old new said.
           gave_same _ _ _ _ old new said
@@ -164,32 +160,32 @@ module _ (s t : List ℕ) (there : DifferOnlyThere s t) where
       line = λ file r p old new said.
           gave_same _ _ _ _ old new said
           (then_same _ _ all_same (λ k. term_rows file r (events k) ++ (row25 p (events k) ∷ row16 (length (line_text file r p k)) (length old) ∷ []))) (line_text file r p);
-      recording = λ slot. ap₂ writing.outcome_by (then_same _ _ rows_same refl) (ap current_slot header_same);
+      recording = λ slot. ap₂ answer_by (then_same _ _ rows_same refl) (ap current_slot header_same);
       registering = λ object name.
-          ap₂ writing.outcome_by (then_same _ _ rows_same (λ k.
+          ap₂ answer_by (then_same _ _ rows_same (λ k.
           let used : ℕ = entry_same (InUse object.pointer) k in
           let count = entry_count (header_same k) in
           row19 object.object_type ∷ row23 name ∷ row_at 20 (ltb used count) used ∷ row 21 (not (ltb (entry_same Free k) count)) ∷ [])) (entry_same Free);
       removing = λ pointer.
-          ap₂ writing.outcome_by (then_same _ _ rows_same (λ k. row 22 (not (ltb (entry_same (InUse pointer) k) (entry_count (header_same k)))) ∷ [])) (entry_same (InUse pointer));
+          ap₂ answer_by (then_same _ _ rows_same (λ k. row 22 (not (ltb (entry_same (InUse pointer) k) (entry_count (header_same k)))) ∷ [])) (entry_same (InUse pointer));
     }
       where
         found_bytes : (file : Option (List ℕ)) (pointer : ℕ) (v : Verdict)
-            → let was = name_found (found_by v (name_with file s (header_of s) pointer)) in name_bytes file t was ≡ name_bytes file s was
-        found_bytes file pointer (Refused f) = refl
-        found_bytes file pointer Passed = (with_same file s t (header_of s) inside words_same names_same pointer).1 file
+            → let was = name_found (answer_by v (name_with file s (header_of s) pointer)) in name_bytes file t was ≡ name_bytes file s was
+        found_bytes file pointer (Err f) = refl
+        found_bytes file pointer (Ok tt) = (with_same file s t (header_of s) inside words_same names_same pointer).1 file
 
         name-bytes : (file : Option (List ℕ)) (p : ℕ) (v : Verdict)
-            → let was = name_shown (shown_by v (event_at file s (header_of s) p)) in name_bytes file t was ≡ name_bytes file s was
-        name-bytes file p (Refused f) = refl
-        name-bytes file p Passed = event_name_same file s t (header_of s) inside words_same names_same p
+            → let was = name_shown (answer_by v (event_at file s (header_of s) p)) in name_bytes file t was ≡ name_bytes file s was
+        name-bytes file p (Err f) = refl
+        name-bytes file p (Ok tt) = event_name_same file s t (header_of s) inside words_same names_same p
 
 pub not_read : (s t : List ℕ) → DifferOnlyThere s t → SameAnswers s t
 not_read s t there = by (first_broken (header_rows (header_of s) (length s))) refl
   where
     by : (v : Verdict) → first_broken (header_rows (header_of s) (length s)) ≡ v → SameAnswers s t
-    by (Refused f) refused = both_refused s t f (all_refused s f refused) (all_refused t f (rows_same s t there ∙ refused))
-    by Passed passed = both_passed s t there passed
+    by (Err f) refused = both_refused s t f (all_refused s f refused) (all_refused t f (rows_same s t there ∙ refused))
+    by (Ok tt) passed = both_passed s t there passed
 
 -- bytes appended to a dump that is whole lie past both ends
 pub appended : (s more : List ℕ) → Whole (header_of s) (length s) → length (s ++ more) ≤ most_bytes → SameAnswers s (s ++ more)

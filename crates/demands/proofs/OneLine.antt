@@ -1,8 +1,8 @@
 -- A line ends with byte 0A and has no other: it is its parts' text and that byte, and no part has one.
+use Rattle.std.specs.Prelude.{None, Option, Some}
 use Prim.Native.Nat.{ℕ, ◌/◌, ◌%◌}
 use mathlib.Core.Bool.{Bool, true, false}
 use mathlib.Core.List.{List, [], ◌∷◌, ◌++◌, map}
-use mathlib.Core.Option.{Option, none, some}
 use mathlib.Core.Path.{◌≡◌, refl}
 use native.Mathlib.Omega.{arith}
 use Rattle.events.specs.Listing.{line_at, line_of, lines_to, listing_text}
@@ -74,8 +74,8 @@ escaped_unbroken (b ∷ bytes) = both (escape_unbroken b) (escaped_unbroken byte
 
 name_unbroken : (n : Option (List ℕ)) → Unbroken (name n)
 unfolding name
-name_unbroken none = unbroken (ascii "null") (omega arith)
-name_unbroken (some bytes) = quoted_unbroken (escaped_unbroken bytes)
+name_unbroken None = unbroken (ascii "null") (omega arith)
+name_unbroken (Some bytes) = quoted_unbroken (escaped_unbroken bytes)
 
 numbers_unbroken : (ns : List ℕ) → Unbroken (separated (map number ns))
 numbers_unbroken [] = no_byte

@@ -1,4 +1,5 @@
 -- What is listed, and when it happened, is as document 01 says.
+use Rattle.std.specs.Prelude.{Ok}
 use Prim.Native.Nat.{ℕ, suc, ◌*◌, ◌^◌, ◌≤◌, ◌<◌}
 use mathlib.Core.Bool.{false}
 use mathlib.Core.List.{List}
@@ -6,7 +7,6 @@ use mathlib.Core.Path.{◌≡◌, refl, sym}
 use native.Mathlib.Nat.{div-mul-le_self, div-add-mod', mod-lt, suc-mul}
 use native.Mathlib.Omega.{arith}
 use Rattle.rows.specs.Rows.{first_broken}
-use Rattle.rows.specs.declared.Verdict.TheVariants.{Passed}
 use Rattle.trace.proofs.Passed.{key_terms}
 use Rattle.trace.proofs.Ring.{count_is, events_most, first_count, first_slot, round_count, round_slot}
 use Rattle.trace.proofs.Times.{product_below}
@@ -27,7 +27,7 @@ pub not_below : (ticks rate : ℕ) → 1 ≤ rate → ticks * 1000000 < suc (mic
 unfolding microseconds
 not_below ticks rate some = rw suc-mul (omega (arith, div-add-mod' (ticks * 1000000) rate, mod-lt (ticks * 1000000) some))
 
-module _ (s : List ℕ) (h : Header) (passed : first_broken (dump_rows s h) ≡ Passed) where
+module _ (s : List ℕ) (h : Header) (passed : first_broken (dump_rows s h) ≡ Ok tt) where
   fits : (unit serial p : ℕ) → (row15 unit serial (event_count s h)).broken ≡ false → p < event_count s h → key unit serial p < 2 ^ 64
   unfolding key
   fits unit serial p kept below = omega (arith, key_terms unit serial (event_count s h) kept)

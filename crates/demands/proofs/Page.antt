@@ -1,9 +1,9 @@
 -- A line of a listing is what stands before its 0A, and its key what stands before the first comma, for neither has that byte within.
+use Rattle.std.specs.Prelude.{Option}
 use Prim.Native.Nat.{ℕ, zero, suc, ◌+◌, ◌<◌}
 use mathlib.Core.Bool.{Bool, true, false}
 use mathlib.Core.List.{List, [], ◌∷◌, ◌++◌, append_assoc}
 use mathlib.Core.Logic.{⊎_elim}
-use mathlib.Core.Option.{Option}
 use mathlib.Core.Path.{◌≡◌, refl, sym, ap, ◌∙◌}
 use native.Mathlib.Nat.{add-zero, eq-or-lt_of_le, le_of_suc-le-suc, zero-add}
 use native.Mathlib.Omega.{arith}

@@ -1,4 +1,5 @@
 -- However a dump is cut, the finish gives what the whole check gives: by what the state holds after each byte.
+use Rattle.std.specs.Prelude.{Err, Ok}
 use Prim.Native.Nat.{ℕ, zero, suc, ◌+◌, ◌≤◌, ◌<◌}
 use mathlib.Core.List.{List, [], ◌∷◌, ◌++◌}
 use mathlib.Core.Path.{◌≡◌, refl, sym, ap, ◌∙◌}
@@ -15,11 +16,9 @@ use Rattle.pieces.specs.Fed.{fed_by}
 use Rattle.pieces.specs.Pieces.{begun, counted, fed, finished, pushed, with_body, with_header}
 use Rattle.pieces.specs.declared.Pieces.{Pieces}
 use Rattle.rows.proofs.Rows.{then_refused}
-use Rattle.rows.specs.Rows.{first_broken}
-use Rattle.rows.specs.declared.Verdict.{Verdict}
-use Rattle.rows.specs.declared.Verdict.TheVariants.{Passed, Refused}
+use Rattle.rows.specs.Rows.{first_broken, Verdict, answer_by}
 use Rattle.trace.proofs.SameBytes.{same_header}
-use Rattle.trace.specs.Check.{check_of, checked_by}
+use Rattle.trace.specs.Check.{check_of, sound_dump}
 use Rattle.trace.specs.Layout.{geometry_of, header_of, header_size, most_bytes}
 use Rattle.trace.specs.Slots.{event_count}
 use Rattle.trace.specs.Table.{dump_rows, header_rows, row1, row2}
@@ -132,10 +131,10 @@ module _ (d : List ℕ) (p : Pieces) (holds : Holds d p (length d)) where
     same = header_is d p.header (λ k below. holds.header k (omega arith) below)
 
     by_rows : (v : Verdict) → first_broken (header_rows h (length d)) ≡ v
-        → checked_by (first_broken (header_rows h (length d) ++ body_rows p.body)) h p.body.slots.unused ≡ checked_by (first_broken (dump_rows d h)) h (event_count d h)
-    by_rows (Refused f) said =
+        → answer_by (first_broken (header_rows h (length d) ++ body_rows p.body)) (sound_dump h p.body.slots.unused) ≡ answer_by (first_broken (dump_rows d h)) (sound_dump h (event_count d h))
+    by_rows (Err f) said =
         rw (← then_refused (header_rows h (length d)) (body_rows p.body) f said, ← then_refused (header_rows h (length d)) _ f said)
-    by_rows Passed said = whole_answer d h p.body (holds.geometry ∙ ap geometry_of same) (holds.body long) said
+    by_rows (Ok tt) said = whole_answer d h p.body (holds.geometry ∙ ap geometry_of same) (holds.body long) said
 
     sized : finished p ≡ check_of d
     unfolding finished check_of

@@ -1,16 +1,16 @@
 -- The bytes of a line's texts: those of labels and words, by one test, and digits are plain, each standing for itself in a string; a name's is plain or escaped.
+use Rattle.std.specs.Prelude.{None, Option, Some}
 use Prim.Native.Nat.{ℕ, ◌+◌, ◌%◌, ◌≤◌, ◌<◌}
 use mathlib.Core.Bool.{Bool, true, false, and-eq-true_iff, cond, not, ◌&&◌}
 use mathlib.Core.List.{List, [], ◌∷◌, ◌++◌}
 use mathlib.Core.Logic.{⊎_elim}
-use mathlib.Core.Option.{Option, none, some}
 use mathlib.Core.Path.{◌≡◌, refl}
 use native.Mathlib.Decide.{dec_lt}
 use native.Mathlib.Omega.{arith}
 use lib.Dec.{eqb, leb, ltb}
 use borrow.Author.Tests.{eqb-false, leb-true, ltb-false, ltb-true, not-true}
 use Rattle.text.proofs.Digits.{by_tenths, digits_more, digits_one}
-use Rattle.text.proofs.Escapes.{by_kind, escape_high, escape_low}
+use Rattle.text.proofs.Escapes.{by_kind, escape_hex}
 use Rattle.text.specs.Lines.{Part, Value, context, event_parts, listed, named, numeric, parts, truth, word}
 use Rattle.text.specs.Names.{escape, hex_digit, hexed, slashed}
 use Rattle.text.specs.Numbers.{digit, digits}
@@ -96,8 +96,8 @@ context_plain Thread = refl
 -- a line's parts pass it
 pub line_plain : (l : Line) (event : Option (Option (List ℕ))) (name : Option (List ℕ)) → Each PlainPart (parts l event name)
 unfolding event_parts parts
-line_plain l none name = plain_parts (parts l none name) (rw (context_plain l.by))
-line_plain l (some title) name = plain_parts (parts l (some title) name) (rw (context_plain l.by))
+line_plain l None name = plain_parts (parts l None name) (rw (context_plain l.by))
+line_plain l (Some title) name = plain_parts (parts l (Some title) name) (rw (context_plain l.by))
 
 -- a hex digit is a digit or a letter
 pub by_hex : (d : ℕ) (P : ℕ → Type 0) → (d < 10 → P (48 + d)) → (10 ≤ d → P (87 + d)) → P (hex_digit d)
@@ -113,6 +113,6 @@ pub by_escape : (b : ℕ) (P : List ℕ → Type 0) → P (hexed b) → P (slash
 by_escape b P hex quote slash self = by (dec_lt b 0x20) (dec_lt 0x7E b)
   where
     by : Dec (b < 0x20) → Dec (0x7E < b) → P (escape b)
-    by (yes low) above = rw (escape_low b low) hex
-    by (no low) (yes high) = rw (escape_high b high) hex
+    by (yes low) above = rw (escape_hex b (λ inside. omega arith)) hex
+    by (no low) (yes high) = rw (escape_hex b (λ inside. high)) hex
     by (no low) (no high) = by_kind b P hex (⊎_elim (λ is. rw is quote) (λ is. rw is slash)) (λ quote slash. self (omega arith))

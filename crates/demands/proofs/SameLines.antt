@@ -1,8 +1,8 @@
 -- Two dumps under one header whose slots have the same words and whose names are the same: with a name file or without, the events are the same, and so are their lines.
+use Rattle.std.specs.Prelude.{None, Some, Option}
 use Prim.Native.Nat.{ℕ, zero, suc, ◌<◌}
 use mathlib.Core.Bool.{Bool, true, false, cond}
 use mathlib.Core.List.{List, ◌++◌}
-use mathlib.Core.Option.{Option, none, some}
 use mathlib.Core.Path.{◌≡◌, refl, ap, ap₂, ◌∙◌}
 use Rattle.events.specs.Events.{context_of, event_at, event_in, name_for}
 use Rattle.events.specs.Listing.{fields, line_at, line_of, lines_to, listing_text, title_in}
@@ -20,7 +20,6 @@ use Rattle.trace.specs.Layout.{current_slot, slot_at, slot_count}
 use Rattle.trace.specs.Names.{name_bytes, name_of}
 use Rattle.trace.specs.Slots.{event_count, slot_in}
 use Rattle.trace.specs.declared.Header.{Header}
-use Rattle.trace.specs.declared.Name.TheVariants.{Nameless}
 use Rattle.trace.specs.declared.Slot.{Slot}
 use Rattle.writing.proofs.SameNames.{SameNamed, chosen_agrees}
 use Rattle.writing.specs.Keeping.{KeepsBytes}
@@ -33,13 +32,13 @@ module _ (file : Option (List ℕ)) (s t : List ℕ) (h : Header) (inside : curr
   unfolding name_bytes name_in record_name
   filed_same subject number = by file
     where
-      kept : (f : List ℕ) (has : Bool) → KeepsBytes s t (cond has (name_at f (record_at f (first_record (Naming subject number) f))) Nameless)
+      kept : (f : List ℕ) (has : Bool) → KeepsBytes s t (cond has (Some (name_at f (record_at f (first_record (Naming subject number) f)))) None)
       kept f true given = refl
       kept f false given = refl
 
       by : (file : Option (List ℕ)) → KeepsBytes s t (name_in subject file number)
-      by none given = refl
-      by (some f) given = kept f (has_record (Naming subject number) f) given
+      by None given = refl
+      by (Some f) given = kept f (has_record (Naming subject number) f) given
 
   pub with_same : (pointer : ℕ) → SameNamed s t (name_with file s h pointer) (name_with file t h pointer)
   unfolding name_with
@@ -74,8 +73,8 @@ module _ (file : Option (List ℕ)) (s t : List ℕ) (h : Header) (inside : curr
     where
       by : (given : Option (List ℕ)) → name_bytes given t (event_at file s h p).title ≡ name_bytes given s (event_at file s h p).title
           → title_in given t (event_at file s h p) ≡ title_in given s (event_at file s h p)
-      by none same = refl
-      by (some f) same = ap some same
+      by None same = refl
+      by (Some f) same = ap Some same
 
   pub line_same : (r : Reading) (p : ℕ) → line_at file t h r p ≡ line_at file s h r p
   unfolding line_of

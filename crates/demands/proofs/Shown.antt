@@ -1,8 +1,8 @@
 -- What a buffer shows after a history: the event at a position is the write of that place among the last ones, so the listing's text is their lines.
+use Rattle.std.specs.Prelude.{Ok, None, Option, Some}
 use Prim.Native.Nat.{ℕ, suc, ◌+◌, ◌-◌, ◌%◌, ◌≤◌, ◌<◌, min}
 use mathlib.Core.Bool.{Bool, true, false}
 use mathlib.Core.List.{List, [], ◌∷◌, ◌++◌, append_assoc, append-nil}
-use mathlib.Core.Option.{Option, none, some}
 use mathlib.Core.Path.{◌≡◌, refl, sym, ap, ◌∙◌}
 use native.Mathlib.Nat.{add-mod_right, add-zero, mod-add-mod, mod-eq_of_lt, mod-lt, zero-add}
 use native.Mathlib.Omega.{arith}
@@ -12,7 +12,6 @@ use Rattle.events.specs.Events.{context_of, event_in, name_for}
 use Rattle.events.specs.Listing.{fields, line_at, line_of, lines_to, listing_text, title_in}
 use Rattle.events.specs.declared.Reading.{Reading}
 use Rattle.rows.specs.Rows.{first_broken}
-use Rattle.rows.specs.declared.Verdict.TheVariants.{Passed}
 use Rattle.text.specs.declared.Context.{Context}
 use Rattle.text.specs.declared.Context.TheVariants.{Init, Isr, Thread}
 use Rattle.trace.proofs.Checks.{check_events, check_passed}
@@ -40,8 +39,8 @@ line_is : (file : Option (List ℕ)) (t : List ℕ) (r : Reading) (position : �
     → slot_in (header_of t).order t (slot_at (header_of t) (slot_of t (header_of t) position)) ≡ cut (header_of t) (given w)
     → line_at file t (header_of t) r position ≡ line_for file t r position w
 unfolding line_of fields title_in event_in cut given
-line_is none t r position w slot = rw (slot, ← name_cut (context_of w.pointer) none t (header_of t) (given w))
-line_is (some f) t r position w slot = rw (slot, ← name_cut (context_of w.pointer) (some f) t (header_of t) (given w))
+line_is None t r position w slot = rw (slot, ← name_cut (context_of w.pointer) None t (header_of t) (given w))
+line_is (Some f) t r position w slot = rw (slot, ← name_cut (context_of w.pointer) (Some f) t (header_of t) (given w))
 
 -- lines one after another, from a position on
 lines_join : (file : Option (List ℕ)) (t : List ℕ) (r : Reading) (q : ℕ) (ws : List Write) → ((i : ℕ) → i < length ws → line_at file t (header_of t) r (q + i) ≡ line_for file t r (q + i) (get_or ws i no_write))
@@ -56,11 +55,11 @@ lines_join file t r q (w ∷ ws) each =
     ∙ append_assoc (lines_to q file t (header_of t) r) (line_at file t (header_of t) r q) (lines_from file t r (suc q) ws)
     ∙ ap (λ (line : List ℕ). lines_to q file t (header_of t) r ++ (line ++ lines_from file t r (suc q) ws)) first
 
-module _ {n mask : ℕ} {ws : List Write} {t : List ℕ} (some : 0 < n) (holds : Holds n mask ws t) where
+module _ {n mask : ℕ} {ws : List Write} {t : List ℕ} (Some : 0 < n) (holds : Holds n mask ws t) where
   abbrev header : Header
   header = header_of t
 
-  passed : first_broken (dump_rows t header) ≡ Passed
+  passed : first_broken (dump_rows t header) ≡ Ok tt
   passed = check_passed t header (min (length ws) n) holds.sound
 
   pub count_is : event_count t (header_of t) ≡ min (length ws) n
@@ -82,7 +81,7 @@ module _ {n mask : ℕ} {ws : List Write} {t : List ℕ} (some : 0 < n) (holds :
           let turn : length ws + p ≡ length ws - n + p + n = omega arith in
           round_slot t header passed used p inside ∙ rw (holds.slots, holds.current) (mod-add-mod (length ws) n p ∙ ap (λ (i : ℕ). i % n) turn ∙ add-mod_right (length ws - n + p) n)
       by false unused =
-          let few : length ws < n = omega (arith, first_count t header passed unused, count_is, holds.current, mod-lt (length ws) some) in
+          let few : length ws < n = omega (arith, first_count t header passed unused, count_is, holds.current, mod-lt (length ws) Some) in
           let from : length ws - n + p ≡ p = omega arith in
           first_slot t header passed unused p inside ∙ sym (rw from (mod-eq_of_lt (omega arith)))
 

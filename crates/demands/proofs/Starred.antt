@@ -1,4 +1,5 @@
 -- The starred cases hold: each computes.
+use Rattle.std.specs.Prelude.{Err, Ok}
 use Prim.Native.Nat.{ℕ}
 use mathlib.Core.List.{List}
 use mathlib.Core.Path.{◌≡◌, refl}
@@ -18,16 +19,15 @@ use Rattle.words.specs.declared.Order.TheVariants.{Big, Little}
 use Rattle.writing.proofs.Opened.{open_writing}
 use Rattle.writing.specs.Table.{row24}
 use Rattle.writing.specs.Writing.{formatting, fresh_header, said}
-use Rattle.writing.specs.declared.Outcome.TheVariants as outcome
 use Rattle.demands.specs.Starred.{Allowed, Starred, no_entries, top_dump, top_header}
 
 -- with no entries the registry has no bytes, whatever the name size
-eighty : (o : Order) (base mask size : ℕ) (s : List ℕ) → Allowed mask size → length s ≡ 80 → said (formatting (no_entries o base mask size) s) ≡ outcome.Done 1
+eighty : (o : Order) (base mask size : ℕ) (s : List ℕ) → Allowed mask size → length s ≡ 80 → said (formatting (no_entries o base mask size) s) ≡ Ok 1
 unfolding first_broken slot_size row2 row24 formatting fresh_header no_entries
 eighty o base mask size s allowed e = rw (e, allowed.0, allowed.1, zero-mul) refl
 
 seventy_nine : (o : Order) (base mask size : ℕ) (s : List ℕ) → Allowed mask size → length s ≡ 79
-    → said (formatting (no_entries o base mask size) s) ≡ outcome.Refused (record { number = 24; place = 0 })
+    → said (formatting (no_entries o base mask size) s) ≡ Err (record { number = 24; place = 0 })
 unfolding first_broken slot_size row2 row24 formatting fresh_header no_entries
 seventy_nine o base mask size s allowed e = rw (e, allowed.0, allowed.1, zero-mul) refl
 

@@ -1,47 +1,44 @@
 -- The third demand: a fresh buffer holds no write, a history holds its accepted writes, and what is held is shown.
+use Rattle.std.specs.Prelude.{Ok, Result, Option}
+use Rattle.rows.specs.declared.Refusal.{Refusal}
 use Prim.Native.Nat.{ℕ, zero, suc, ◌+◌, ◌-◌, ◌*◌, ◌%◌, ◌^◌, ◌≤◌, ◌<◌, min}
 use mathlib.Core.List.{List, [], ◌∷◌, ◌++◌}
 use mathlib.Core.Logic.{⊎_elim}
-use mathlib.Core.Option.{Option}
 use mathlib.Core.Path.{◌≡◌, refl, sym, ap, ◌∙◌, subst}
 use native.Mathlib.Nat.{add-suc, suc-add, zero-add, zero-min, zero-mod}
 use native.Mathlib.Omega.{arith}
 use borrow.Author.Tests.{le-ltb, lt-leb, ne_eqb}
 use lib.ListN.{drop, get_or, length, length-drop}
 use Rattle.events.specs.Listing.{Gave, listing_more, listing_rows, listing_text, reading_rows}
-use Rattle.events.specs.declared.Listed.{Listed}
-use Rattle.events.specs.declared.Listed.TheVariants.{Written}
 use Rattle.events.specs.declared.Reading.{Reading}
 use Rattle.naming.specs.Records.{file_rows}
 use Rattle.rows.proofs.Rows.{one_kept, then_rest}
 use Rattle.rows.specs.Rows.{Accepted, first_broken}
-use Rattle.rows.specs.declared.Verdict.TheVariants.{Passed}
 use Rattle.trace.proofs.Checks.{check_passed}
 use Rattle.trace.proofs.InTurn.{sound_turn}
 use Rattle.trace.proofs.Passed.{mask_wide}
+use Rattle.trace.specs.Check.{sound_dump}
 use Rattle.trace.specs.Layout.{header_of, current_slot}
 use Rattle.trace.specs.Slots.{event_count, slot_in}
 use Rattle.trace.specs.Table.{dump_rows, row14, row15, row16}
 use Rattle.trace.specs.Times.{stamp_of}
-use Rattle.trace.specs.declared.Checked.TheVariants.{Sound}
 use Rattle.trace.specs.declared.Slot.{Slot}
 use Rattle.writing.proofs.Fresh.{fresh-header}
 use Rattle.writing.specs.Writing.{cut, formatting, fresh_end, fresh_header, fresh_slots, left, recording, said}
 use Rattle.writing.specs.declared.Format.{Format}
-use Rattle.writing.specs.declared.Outcome.TheVariants as outcome
 use Rattle.demands.specs.Demands.{Shows, ThirdDemand}
 use Rattle.demands.specs.History.{NeverBack, Write, accepted_writes, after, given, last_of, time_at, whole_ranges}
 use Rattle.demands.specs.Masks.{range}
 use Rattle.demands.specs.Shown.{ReadingAccepted, lines_of, shown_ticks}
 use Rattle.demands.specs.Writings.{Formatted}
-use Rattle.demands.proofs.Answers.{done_is}
+use Rattle.demands.proofs.Answers.{answer_is}
 use Rattle.demands.proofs.History.{Holds, calls_hold, no_write}
 use Rattle.demands.proofs.OrderAndTime.{not_above, not_below}
 use Rattle.demands.proofs.Shown.{count_is, last_length, text_is, words_are}
 use Rattle.demands.proofs.TrueTimes.{stamp_cut, ticks_exact, ticks_gone}
 use Rattle.demands.proofs.Writings.{formatting_makes}
 
-fresh_holds : (f : Format) (s : List ℕ) (n : ℕ) → f.base < 2 ^ 32 → said (formatting f s) ≡ outcome.Done n → (0 < n) × Holds n f.mask [] (left (formatting f s) s)
+fresh_holds : (f : Format) (s : List ℕ) (n : ℕ) → f.base < 2 ^ 32 → said (formatting f s) ≡ Ok n → (0 < n) × Holds n f.mask [] (left (formatting f s) s)
 unfolding formatting fresh_header
 fresh_holds f s n word done = (
   rw (← slots) makes.one,
@@ -55,10 +52,10 @@ fresh_holds f s n word done = (
 )
   where
     passed : Accepted (formatting f s).rows
-    passed = (done_is (first_broken (formatting f s).rows) (formatting f s).gives n done).0
+    passed = (answer_is (first_broken (formatting f s).rows) (formatting f s).gives n done).0
 
     slots : fresh_slots f (length s) ≡ n
-    slots = sym (done_is (first_broken (formatting f s).rows) (formatting f s).gives n done).1
+    slots = sym (answer_is (first_broken (formatting f s).rows) (formatting f s).gives n done).1
 
     makes : Formatted f s (left (formatting f s) s) (fresh_header f (fresh_end f (length s)))
     makes = formatting_makes f s word passed
@@ -90,7 +87,7 @@ last_back n ws back i below =
 
 -- what is held is shown
 module _ (mask k n : ℕ) (ws : List Write) (t : List ℕ) (some : 0 < n) (many : length ws ≡ k) (holds : Holds n mask ws t) where
-  passed : first_broken (dump_rows t (header_of t)) ≡ Passed
+  passed : first_broken (dump_rows t (header_of t)) ≡ Ok tt
   passed = check_passed t (header_of t) (min (length ws) n) holds.sound
 
   listed_length : length (last_of n ws) ≡ min k n
@@ -121,16 +118,16 @@ module _ (mask k n : ℕ) (ws : List Write) (t : List ℕ) (some : 0 < n) (many 
         ∙ sym (then_rest (reading_rows r (event_count t (header_of t))) (file_rows file ++ (last ∷ [])) (reading_accepts r reading))
         ∙ sym (then_rest (file_rows file) (last ∷ []) right) ∙ one_kept last (rw (text_is some holds file r) (le-ltb room _ fits))
 
-    lists : (old new : List ℕ) (answer : Listed) → ReadingAccepted r (min k n) → Accepted (file_rows file) → length text ≤ length old
+    lists : (old new : List ℕ) (answer : Result ℕ Refusal) → ReadingAccepted r (min k n) → Accepted (file_rows file) → length text ≤ length old
         → Gave (listing_rows file t (header_of t) r (length old)) (listing_text file t (header_of t) r) old new answer
-        → (answer ≡ Written (length text)) × (new ≡ text ++ drop (length text) old)
+        → (answer ≡ Ok (length text)) × (new ≡ text ++ drop (length text) old)
     lists old new answer reading right fits gave =
         let all = accepts (length old) (subst (λ (k : ℕ). ReadingAccepted r (min k n)) (sym many) reading) right fits in
         (gave.answered ∙ rw (all, text_is some holds file r), gave.output ∙ rw (all, text_is some holds file r))
 
   pub shows : Shows mask k n ws t
   shows = record {
-    passes = holds.sound ∙ ap (λ (k : ℕ). Sound (header_of t) (min k n)) many;
+    passes = holds.sound ∙ ap (λ (k : ℕ). Ok (sound_dump (header_of t) (min k n))) many;
     lists = lists;
     ticks = λ back p below.
         ap (λ (mask : ℕ). shown_ticks t p + range mask * whole_ranges (range mask) (last_of n ws) p) (sym holds.mask_is)

@@ -1,4 +1,5 @@
 -- The whole case is made by its six calls: each computes, from the dump that the one before it left.
+use Rattle.std.specs.Prelude.{Ok}
 use Prim.Native.Nat.{ℕ, zero, suc}
 use mathlib.Core.List.{List, ◌++◌, append-nil}
 use mathlib.Core.Path.{◌≡◌, refl, sym, ap, ◌∙◌}
@@ -7,7 +8,6 @@ use native.Mathlib.Omega.{arith}
 use lib.ListN.{length, replicate}
 use lib.Seq.{sets, sets-eq, drop-length}
 use Rattle.rows.specs.Rows.{first_broken}
-use Rattle.rows.specs.declared.Verdict.TheVariants.{Passed}
 use Rattle.text.specs.Ascii.{ascii}
 use Rattle.trace.specs.Layout.{slot_size, with_current}
 use Rattle.trace.specs.Table.{row2, row4, row5}
@@ -21,7 +21,6 @@ use Rattle.writing.proofs.FreshBytes.{fresh_length}
 use Rattle.writing.specs.Bytes.{entry_bytes, free_entry, header_bytes, slot_bytes}
 use Rattle.writing.specs.Table.{row24}
 use Rattle.writing.specs.Writing.{Change, formatting, fresh_bytes, fresh_header, left, recording, registering, said}
-use Rattle.writing.specs.declared.Outcome.TheVariants.{Done}
 use Rattle.demands.specs.History.{NeverBack, NoneFormats, Typed, accepted_writes, after, given}
 use Rattle.demands.specs.WholeCase.{first_write, four_writes, fourth_write, middle, newest, oldest, pump, second_write, third_write, whole_calls, whole_dump, whole_format, whole_fresh, whole_header}
 use Rattle.demands.proofs.Typed.{given_words}
@@ -61,7 +60,7 @@ unfolding open_writing whole_header whole_format dump unused
 fresh Big = refl
 fresh Little = refl
 
-format_passes : (o : Order) (s : List ℕ) → length s ≡ 168 → first_broken (formatting (whole_format o) s).rows ≡ Passed
+format_passes : (o : Order) (s : List ℕ) → length s ≡ 168 → first_broken (formatting (whole_format o) s).rows ≡ Ok tt
 unfolding width_to first_broken slot_size row2 row4 row5 row24 formatting fresh_header whole_format
 format_passes o s e = rw e refl
 
@@ -74,7 +73,7 @@ formatted o s e =
 
 -- a call is accepted, and what it gives and leaves of a buffer
 abbrev Did : (List ℕ → Change) → List ℕ → ℕ → List ℕ → Type 0
-Did change s n t = (said (change s) ≡ Done n) × (left (change s) s ≡ t)
+Did change s n t = (said (change s) ≡ Ok n) × (left (change s) s ≡ t)
 
 record Steps (o : Order) : Type 0 where
   pumped : Did (registering pump (ascii "pump")) (fresh_dump o) 0 (with_pump o)
@@ -89,7 +88,7 @@ steps Big = record { pumped = (refl, refl); first = (refl, refl); second = (refl
 steps Little = record { pumped = (refl, refl); first = (refl, refl); second = (refl, refl); third = (refl, refl); fourth = (refl, refl) }
 
 -- formatting gives three slots
-pub three_slots : (o : Order) (s : List ℕ) → length s ≡ 168 → said (formatting (whole_format o) s) ≡ Done 3
+pub three_slots : (o : Order) (s : List ℕ) → length s ≡ 168 → said (formatting (whole_format o) s) ≡ Ok 3
 unfolding slot_size formatting fresh_header whole_format
 three_slots o s e = sym (by_passing (formatting (whole_format o) s) s (format_passes o s e)).0 ∙ rw e
 

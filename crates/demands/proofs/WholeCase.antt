@@ -1,5 +1,5 @@
 -- The whole case holds: its calls make the dump, and the rest computes.
-use mathlib.Core.Option.{none}
+use Rattle.std.specs.Prelude.{None}
 use mathlib.Core.Path.{refl}
 use lib.ListN.{replicate}
 use Rattle.events.specs.Events.{context_of, event_in, name_for}
@@ -23,5 +23,5 @@ use Rattle.demands.specs.WholeCase.{WholeCase, middle, middle_gone, middle_line,
 
 pub whole_case : (o : Order) → WholeCase o
 unfolding open_mending numbers_read behind line_in up_to pump middle middle_gone middle_line newest newest_line oldest oldest_gone oldest_line reading three_lines whole_bytes whole_copy whole_dump whole_header context_of event_in name_for name_in name_with fields title_in line_of lines_to context event_parts line object_text part_text parts value_text name escape escaped hex_digit is_marked is_plain digits digits_in is_bare number quoted key name_bytes name_if_entry name_of thread_name slot_in gap microseconds ticks_of
-whole_case Big = record { fresh = three_slots Big; typed = calls_typed; none_formats = none_formats; never_back = times_rise; writes = writes_accepted Big; made = calls_make Big; bytes = refl; check = refl; registry_cut = refl; slots_cut = refl; mended = refl; copy = refl; listing = refl; removed = refl; numbers = refl; written = λ p below. in_listing none (whole_dump Big) (replicate three_long 0) three_lines three_long (record { answered = refl; output = refl }) below refl; keys = refl; room = refl; no_room = refl }
-whole_case Little = record { fresh = three_slots Little; typed = calls_typed; none_formats = none_formats; never_back = times_rise; writes = writes_accepted Little; made = calls_make Little; bytes = refl; check = refl; registry_cut = refl; slots_cut = refl; mended = refl; copy = refl; listing = refl; removed = refl; numbers = refl; written = λ p below. in_listing none (whole_dump Little) (replicate three_long 0) three_lines three_long (record { answered = refl; output = refl }) below refl; keys = refl; room = refl; no_room = refl }
+whole_case Big = record { fresh = three_slots Big; typed = calls_typed; none_formats = none_formats; never_back = times_rise; writes = writes_accepted Big; made = calls_make Big; bytes = refl; check = refl; registry_cut = refl; slots_cut = refl; mended = refl; copy = refl; listing = refl; removed = refl; numbers = refl; written = λ p below. in_listing None (whole_dump Big) (replicate three_long 0) three_lines three_long (record { answered = refl; output = refl }) below refl; keys = refl; room = refl; no_room = refl }
+whole_case Little = record { fresh = three_slots Little; typed = calls_typed; none_formats = none_formats; never_back = times_rise; writes = writes_accepted Little; made = calls_make Little; bytes = refl; check = refl; registry_cut = refl; slots_cut = refl; mended = refl; copy = refl; listing = refl; removed = refl; numbers = refl; written = λ p below. in_listing None (whole_dump Little) (replicate three_long 0) three_lines three_long (record { answered = refl; output = refl }) below refl; keys = refl; room = refl; no_room = refl }

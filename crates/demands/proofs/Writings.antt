@@ -1,4 +1,5 @@
 -- The calls that write do what a user may ask of them, by the laws of writing.
+use Rattle.std.specs.Prelude.{Ok}
 use Prim.Native.Nat.{ℕ, suc, ◌+◌, ◌^◌, ◌≤◌, ◌<◌, min}
 use mathlib.Core.List.{List}
 use mathlib.Core.Path.{◌≡◌, sym, ap, ◌∙◌}
@@ -10,9 +11,9 @@ use Rattle.naming.specs.Writing.{record_bytes, record_size, row28}
 use Rattle.naming.specs.declared.Subject.{Subject}
 use Rattle.rows.proofs.Rows.{further, here, unbroken}
 use Rattle.rows.specs.Rows.{Accepted}
+use Rattle.trace.specs.Check.{sound_dump}
 use Rattle.trace.specs.Layout.{header_of, current_slot, most_bytes, slot_count, with_current}
 use Rattle.trace.specs.Table.{row16}
-use Rattle.trace.specs.declared.Checked.TheVariants.{Sound}
 use Rattle.trace.specs.declared.Header.{Header}
 use Rattle.trace.specs.declared.Slot.{Slot}
 use Rattle.words.proofs.Laws.{sets_other}
@@ -54,7 +55,7 @@ recording_leaves slot s words accepted = record {
   untouched = recorded_untouched slot s accepted;
   header = header;
   moved = ap current_slot header ∙ recorded_current slot s accepted;
-  sound = λ n sound. recorded_sound slot s accepted words n sound ∙ ap (λ (h : Header). Sound h (min (suc n) (slot_count (header_of s)))) (sym header);
+  sound = λ n sound. recorded_sound slot s accepted words n sound ∙ ap (λ (h : Header). Ok (sound_dump h (min (suc n) (slot_count (header_of s))))) (sym header);
   names = recorded_names slot s accepted;
   one_each = recorded_one_each slot s accepted;
 }

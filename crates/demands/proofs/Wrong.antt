@@ -1,9 +1,10 @@
 -- Each wrong statement falls to a case of document 01, or to one that computes.
+use Rattle.std.specs.Prelude.{Err, None, Ok, Option, Result, Some}
+use Rattle.rows.specs.declared.Refusal.{Refusal}
 use Prim.Native.Nat.{ℕ, zero, suc, min}
 use mathlib.Core.Bool.{true, true≢false}
 use mathlib.Core.List.{List, [], ◌∷◌, ◌++◌}
 use mathlib.Core.Logic.{inl}
-use mathlib.Core.Option.{Option, some}
 use mathlib.Core.Path.{◌≡◌, refl, sym, ap, ◌∙◌}
 use native.Mathlib.Omega.{arith}
 use lib.ListN.{get_or, length, replicate, set, take}
@@ -15,17 +16,15 @@ use Rattle.rows.specs.Rows.{Accepted}
 use Rattle.text.specs.Lines.{name_size}
 use Rattle.text.specs.Numbers.{digits, digits_in}
 use Rattle.trace.proofs.Checks.{check_events, check_passed}
-use Rattle.trace.specs.Check.{check_of, checked_told}
+use Rattle.trace.specs.Check.{check_of, checked_told, sound_dump}
 use Rattle.trace.specs.Layout.{entry_count, header_of, registry_end, slot_count}
 use Rattle.trace.specs.Names.{find_name, is_named, name_bytes, name_found, name_if_entry, name_of, thread_name}
 use Rattle.trace.specs.Ring.{from_current, keep, numbers_from, oldest_first}
 use Rattle.trace.specs.Table.{before_ends, registry_rows, row4}
 use Rattle.trace.specs.Times.{microseconds, stamp_of}
-use Rattle.trace.specs.declared.Checked.{Checked}
-use Rattle.trace.specs.declared.Checked.TheVariants.{Refused, Sound}
-use Rattle.trace.specs.declared.Found.{Found}
-use Rattle.trace.specs.declared.Found.TheVariants.{Searched}
-use Rattle.trace.specs.declared.Name.TheVariants.{Named, Nameless}
+use Rattle.trace.specs.declared.Name.TheVariants.{Named}
+use Rattle.trace.specs.declared.Name.{Name}
+use Rattle.trace.specs.declared.Sound.{Sound}
 use Rattle.trace.specs.declared.ThreadKind.TheVariants.{Gone}
 use Rattle.words.specs.Each.{Each}
 use Rattle.words.specs.declared.Order.TheVariants.{Little}
@@ -33,7 +32,6 @@ use Rattle.writing.proofs.Opened.{open_writing}
 use Rattle.writing.specs.Writing.{formatting, left, recording, registering, removing, said}
 use Rattle.writing.specs.declared.Format.{Format}
 use Rattle.writing.specs.declared.Object.{Object}
-use Rattle.writing.specs.declared.Outcome.TheVariants.{Done}
 use Rattle.demands.specs.History.{Call, NeverBack, Typed, Write, accepted_writes, given, since_oldest, whole_ranges, write}
 use Rattle.demands.specs.Masks.{range}
 use Rattle.demands.specs.Refusals.{given_at}
@@ -93,7 +91,7 @@ calls = write (write_at 0) ∷ write (write_at 65536) ∷ []
 
 -- a name file with two names for one event, the second of them empty
 abbrev named_twice : Option (List ℕ)
-named_twice = some (record_bytes Event 7 (0x41 ∷ []) ++ record_bytes Event 7 [])
+named_twice = Some (record_bytes Event 7 (0x41 ∷ []) ++ record_bytes Event 7 [])
 
 -- what computes
 record Computed : Type 0 where
@@ -101,11 +99,11 @@ record Computed : Type 0 where
   next_stamp : stamp_of whole (header_of whole) 1 ≡ 20
   first_digit : get_or (digits (microseconds 9007199255 1)) 0 0 ≡ 0x39
   no_mask : (row4 0).broken ≡ true
-  slot_1 : check_of faulty ≡ Refused (record { number = 13; place = 1 })
+  slot_1 : check_of faulty ≡ Err (record { number = 13; place = 1 })
   fifth : Accepted (recording (given fourth_write) whole).rows
   header : header_of whole ≡ whole_header Little
   three : slot_count (header_of whole) ≡ 3
-  two : said (formatting two_slots blank) ≡ Done 2
+  two : said (formatting two_slots blank) ≡ Ok 2
   accepted : accepted_writes recording calls (left (formatting two_slots blank) blank) ≡ apart
   range_is : range 0xFFFF ≡ 65536
   one_range : whole_ranges 65536 apart 1 ≡ 1
@@ -113,19 +111,19 @@ record Computed : Type 0 where
   one_entry : entry_count (header_of whole) ≡ 1
   removal : Accepted (removing 0x20001000 whole).rows
   typed : Accepted (registry_rows whole (header_of whole))
-  pump_gone : find_name removed 0x20001000 ≡ Searched (Named Gone 64 4)
+  pump_gone : find_name removed 0x20001000 ≡ Ok (Some (Named Gone 64 4))
   taken : Accepted (registering queue [] removed).rows
-  pump_lost : find_name reused 0x20001000 ≡ Searched Nameless
-  short : check_of cut_off ≡ Refused (record { number = 1; place = 0 })
-  longer : check_of (cut_off ++ (0 ∷ [])) ≡ Refused (record { number = 3; place = 0 })
+  pump_lost : find_name reused 0x20001000 ≡ Ok None
+  short : check_of cut_off ≡ Err (record { number = 1; place = 0 })
+  longer : check_of (cut_off ++ (0 ∷ [])) ≡ Err (record { number = 3; place = 0 })
   begun : Accepted (before_ends (header_of nonsense) (length nonsense))
   came : length nonsense ≡ 60
   beyond : registry_end (header_of nonsense) ≡ 73
-  not-whole : check_of nonsense ≡ Refused (given_at 7 0)
-  registry_cut : check_of upload ≡ Refused (given_at 26 12)
-  slots_cut : check_of (upload ++ replicate 12 0) ≡ Refused (given_at 26 96)
+  not-whole : check_of nonsense ≡ Err (given_at 7 0)
+  registry_cut : check_of upload ≡ Err (given_at 26 12)
+  slots_cut : check_of (upload ++ replicate 12 0) ≡ Err (given_at 26 96)
   right : Accepted (file_rows named_twice)
-  first_name : name_bytes named_twice [] (name_in Event named_twice 7) ≡ some (0x41 ∷ [])
+  first_name : name_bytes named_twice [] (name_in Event named_twice 7) ≡ Some (0x41 ∷ [])
 
 computed : Computed
 unfolding open_writing pump middle newest oldest whole_dump whole_header from_current keep numbers_from oldest_first digits digits_in microseconds given fourth_write two_slots blank write_at queue find_name name_if_entry name_of thread_name is_sought_at kind_of name_bytes name_in record_at record_name row27
@@ -152,13 +150,13 @@ appending : AlwaysAppended → ⊥
 unfolding checked_told
 appending wrong =
     let same = sym computed.longer ∙ (wrong cut_off (0 ∷ []) (omega arith)).check ∙ computed.short in
-    omega (arith, ap (λ (x : Checked). (checked_told x).number) same)
+    omega (arith, ap (λ (x : Result Sound Refusal). (checked_told x).number) same)
 
 saying_cut : NonsenseCut → ⊥
 unfolding checked_told
 saying_cut wrong =
     let said = wrong nonsense computed.begun (omega (arith, computed.came, computed.beyond)) (omega (arith, computed.beyond)) in
-    omega (arith, ap (λ (x : Checked). (checked_told x).number) (sym computed.not-whole ∙ said.1))
+    omega (arith, ap (λ (x : Result Sound Refusal). (checked_told x).number) (sym computed.not-whole ∙ said.1))
 
 cutting : CutOnce → ⊥
 cutting wrong = wrong upload (replicate 12 0) 12 96 computed.registry_cut refl computed.slots_cut
@@ -166,7 +164,7 @@ cutting wrong = wrong upload (replicate 12 0) 12 96 computed.registry_cut refl c
 growing : CountGrows → ⊥
 unfolding fourth_write
 growing wrong =
-    let sound : check_of whole ≡ Sound (header_of whole) 3 = (whole_case Little).check ∙ rw computed.header in
+    let sound : check_of whole ≡ Ok (sound_dump (header_of whole) 3) = (whole_case Little).check ∙ rw computed.header in
     let words = given_words fourth_write refl in
     let leaves = recording_leaves (given fourth_write) whole words computed.fifth in
     let left-three = leaves.sound 3 sound in
@@ -177,13 +175,13 @@ growing wrong =
 losing : NameLost → ⊥
 losing wrong =
     let lost = wrong 0x20001000 whole computed.removal computed.typed (λ i j below inside one two same. omega (arith, computed.one_entry)) in
-    true≢false (ap (λ (x : Found). is_named (name_found x)) (sym computed.pump_gone ∙ lost))
+    true≢false (ap (λ (x : Result (Option Name) Refusal). is_named (name_found x)) (sym computed.pump_gone ∙ lost))
 
 keeping : OthersKept → ⊥
 unfolding queue
 keeping wrong =
     let kept = wrong queue [] removed 0x20001000 (omega arith) computed.taken (λ same. omega arith) in
-    true≢false (ap (λ (x : Found). is_named (name_found x)) (sym computed.pump_gone ∙ sym kept.found ∙ computed.pump_lost))
+    true≢false (ap (λ (x : Result (Option Name) Refusal). is_named (name_found x)) (sym computed.pump_gone ∙ sym kept.found ∙ computed.pump_lost))
 
 exact : AlwaysExact → ⊥
 unfolding two_slots write_at

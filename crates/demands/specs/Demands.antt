@@ -1,13 +1,9 @@
 -- The three demands, each sentence in quotes above what states it.
-use Rattle.std.specs.Prelude.{ℕ, suc, ◌+◌, ◌*◌, ◌^◌, ◌≤◌, ◌<◌, min, List, [], ◌∷◌, ◌++◌, map, ◌≡◌, drop, length, take}
-use Rattle.std.proofs.Math.Option.{Option}
+use Rattle.std.specs.Prelude.{ℕ, suc, ◌+◌, ◌*◌, ◌^◌, ◌≤◌, ◌<◌, min, List, [], ◌∷◌, ◌++◌, map, ◌≡◌, drop, length, take, Err, Ok, Option, Result}
 use Rattle.events.specs.Events.{event_at, event_of, event_rows, shown_told}
-use Rattle.events.specs.Listing.{Gave, fields, line_at, line_rows, listed_told, listing_rows, listing_text}
-use Rattle.events.specs.declared.Listed.{Listed}
-use Rattle.events.specs.declared.Listed.TheVariants as listed
+use Rattle.events.specs.Listing.{Gave, fields, line_at, line_rows, listing_rows, listing_text}
 use Rattle.events.specs.declared.Reading.{Reading}
 use Rattle.mending.specs.Mending.{copy_of, mend_of, mended_told, mending_rows}
-use Rattle.mending.specs.declared.Mended.TheVariants as mended
 use Rattle.naming.specs.Finding.{find_name_with, finding_rows}
 use Rattle.naming.specs.Records.{file_rows}
 use Rattle.naming.specs.declared.Subject.{Subject}
@@ -15,25 +11,23 @@ use Rattle.pieces.specs.Pieces.{finish_rows, finished}
 use Rattle.pieces.specs.declared.Pieces.{Pieces}
 use Rattle.rows.specs.Lent.{left_in}
 use Rattle.rows.specs.Rows.{Accepted, first_broken}
+use Rattle.rows.specs.Told.{number_told}
 use Rattle.rows.specs.declared.Refusal.{Refusal}
-use Rattle.rows.specs.declared.Verdict.TheVariants.{Refused}
 use Rattle.text.specs.Numbers.{digits, is_bare}
-use Rattle.trace.specs.Check.{check_of, checked_told}
+use Rattle.trace.specs.Check.{check_of, checked_told, sound_dump}
 use Rattle.trace.specs.Layout.{buffer_end, header_of, most_bytes}
 use Rattle.trace.specs.Names.{find_name, found_told}
 use Rattle.trace.specs.Ring.{keep}
 use Rattle.trace.specs.Slots.{event_count}
 use Rattle.trace.specs.Table.{before_ends, dump_rows, header_rows, layout_rows, registry_rows}
-use Rattle.trace.specs.declared.Checked.TheVariants as checked
 use Rattle.trace.specs.declared.Header.{Header}
 use Rattle.trace.specs.declared.Slot.{Slot}
 use Rattle.words.specs.Each.{Each}
 use Rattle.words.specs.Words.{AreBytes}
 use Rattle.writing.specs.Arguments.{IsSlot}
-use Rattle.writing.specs.Writing.{Change, filing, formatting, fresh_end, fresh_header, left, outcome_told, recording, registering, removing, said}
+use Rattle.writing.specs.Writing.{Change, filing, formatting, fresh_end, fresh_header, left, recording, registering, removing, said}
 use Rattle.writing.specs.declared.Format.{Format}
 use Rattle.writing.specs.declared.Object.{Object}
-use Rattle.writing.specs.declared.Outcome.TheVariants as outcome
 use Rattle.demands.specs.BareNumbers.{BareNumbers}
 use Rattle.demands.specs.Cut.{CutAt, CutShort, NonsenseEnd, RegistryThere, Resumed, RightBuffer}
 use Rattle.demands.specs.EveryCall.{AllRefused, SomeRefused}
@@ -61,7 +55,7 @@ use Rattle.demands.specs.Writings.{Filed, Formatted, Recorded, Registered, Remov
 
 -- a call that writes into a buffer s
 abbrev pub Writes : Change → List ℕ → Type 0
-Writes c s = RefusesAndKeeps c.rows s (left c s) (outcome_told (said c))
+Writes c s = RefusesAndKeeps c.rows s (left c s) (number_told (said c))
 
 -- "Any bytes and any arguments get an answer." "No caller is asked to have checked anything." That nothing is asked is said of the contracts themselves:
 -- `asks_nothing` in `library` (`contracts`). That each function then ends, with an answer that its contract allows, is what its own proof says.
@@ -75,12 +69,12 @@ pub record FirstDemand : Type 0 where
   pub finding_with : (file : Option (List ℕ)) (s : List ℕ) (pointer : ℕ) → Refuses (finding_rows file s (header_of s)) (found_told (find_name_with file s pointer))
   pub event : (file : Option (List ℕ)) (s : List ℕ) (position : ℕ) → Refuses (event_rows file s (header_of s) position) (shown_told (event_of file s position))
   -- calls that are lent output too
-  pub listing : (file : Option (List ℕ)) (s : List ℕ) (r : Reading) (old new : List ℕ) (answer : Listed)
+  pub listing : (file : Option (List ℕ)) (s : List ℕ) (r : Reading) (old new : List ℕ) (answer : Result ℕ Refusal)
       → Gave (listing_rows file s (header_of s) r (length old)) (listing_text file s (header_of s) r) old new answer
-      → RefusesAndKeeps (listing_rows file s (header_of s) r (length old)) old new (listed_told answer)
-  pub line : (file : Option (List ℕ)) (s : List ℕ) (r : Reading) (position : ℕ) (old new : List ℕ) (answer : Listed)
+      → RefusesAndKeeps (listing_rows file s (header_of s) r (length old)) old new (number_told answer)
+  pub line : (file : Option (List ℕ)) (s : List ℕ) (r : Reading) (position : ℕ) (old new : List ℕ) (answer : Result ℕ Refusal)
       → Gave (line_rows file s (header_of s) r position (length old)) (line_at file s (header_of s) r position) old new answer
-      → RefusesAndKeeps (line_rows file s (header_of s) r position (length old)) old new (listed_told answer)
+      → RefusesAndKeeps (line_rows file s (header_of s) r position (length old)) old new (number_told answer)
   -- calls that are lent a buffer to be written
   pub formatting : (f : Format) (s : List ℕ) → Writes (formatting f s) s
   pub recording : (slot : Slot) (s : List ℕ) → Writes (recording slot s) s
@@ -93,10 +87,10 @@ pub record FirstDemand : Type 0 where
       RefusesAndKeeps rows old (left_in old (first_broken rows) (copy_of s (header_of s))) (mended_told (mend_of s (length old)))
   -- what 1 to 9 refuse, save 26 at the buffer end, every call that reads a trace buffer refuses alike, and so does mending; where 1 to 6 pass, the registry is there and
   -- the buffer's end is right, whether or not the slots came, it takes whatever dump there is room for, and less room gives 16
-  pub mending_alike : (s : List ℕ) (f : Refusal) → first_broken (layout_rows (header_of s) (length s)) ≡ Refused f
-      → AllRefused s f × ((room : ℕ) → mend_of s room ≡ mended.Refused f)
+  pub mending_alike : (s : List ℕ) (f : Refusal) → first_broken (layout_rows (header_of s) (length s)) ≡ Err f
+      → AllRefused s f × ((room : ℕ) → mend_of s room ≡ Err f)
   pub mending_takes : (s : List ℕ) (room : ℕ) → Accepted (before_ends (header_of s) (length s)) → RegistryThere (header_of s) (length s) → RightBuffer (header_of s)
-      → (buffer_end (header_of s) ≤ room → Accepted (mending_rows s (header_of s) room)) × (room < buffer_end (header_of s) → mend_of s room ≡ mended.Refused (given_at 16 0))
+      → (buffer_end (header_of s) ≤ room → Accepted (mending_rows s (header_of s) room)) × (room < buffer_end (header_of s) → mend_of s room ≡ Err (given_at 16 0))
   -- 26 is given exactly where an end offset is otherwise right but beyond the dump's length, and callers but mending pass it on; a nonsense end
   -- gets 7 or 9 (document 02, A1)
   pub says_cut : (s : List ℕ) (k : ℕ) → CutShort (header_of s) (length s) k → AllRefused s (given_at 26 k)
@@ -147,10 +141,10 @@ pub record SecondDemand : Type 0 where
   -- "The listing is the one text that 01 defines,": its length is given, it stands in the output, and output past it keeps its bytes
   pub listing : (file : Option (List ℕ)) (s : List ℕ) (r : Reading) (old new : List ℕ) (n : ℕ)
       → let text = listing_text file s (header_of s) r in
-      Gave (listing_rows file s (header_of s) r (length old)) text old new (listed.Written n) → (n ≡ length text) × (new ≡ text ++ drop n old)
+      Gave (listing_rows file s (header_of s) r (length old)) text old new (Ok n) → (n ≡ length text) × (new ≡ text ++ drop n old)
   pub line : (file : Option (List ℕ)) (s : List ℕ) (r : Reading) (position : ℕ) (old new : List ℕ) (n : ℕ)
       → let text = line_at file s (header_of s) r position in
-      Gave (line_rows file s (header_of s) r position (length old)) text old new (listed.Written n) → (n ≡ length text) × (new ≡ text ++ drop n old)
+      Gave (line_rows file s (header_of s) r position (length old)) text old new (Ok n) → (n ≡ length text) × (new ≡ text ++ drop n old)
   -- each line is ended by byte 0A and has no other; an empty ring gives no bytes
   pub one_line : (file : Option (List ℕ)) (s : List ℕ) (h : Header) (r : Reading) (position : ℕ)
       → (body : List ℕ) × (line_at file s h r position ≡ body ++ (0x0A ∷ [])) × Each (λ c. c ≡ 0x0A → ⊥) body
@@ -163,10 +157,10 @@ pub record SecondDemand : Type 0 where
   -- "and no whole number at or above two to the fifty-third leaves as a JSON number." (document 02, A3): in what was written, the JSON numbers are the
   -- digits of the lines' bare numbers, in their order, and nothing else
   pub numbers : (file : Option (List ℕ)) (s : List ℕ) (r : Reading) (old new : List ℕ) (n : ℕ)
-      → Gave (listing_rows file s (header_of s) r (length old)) (listing_text file s (header_of s) r) old new (listed.Written n)
+      → Gave (listing_rows file s (header_of s) r (length old)) (listing_text file s (header_of s) r) old new (Ok n)
       → json_numbers (take n new) ≡ map digits (keep is_bare (listed_numbers file s (header_of s) r))
   pub line_numbers : (file : Option (List ℕ)) (s : List ℕ) (r : Reading) (position : ℕ) (old new : List ℕ) (n : ℕ)
-      → Gave (line_rows file s (header_of s) r position (length old)) (line_at file s (header_of s) r position) old new (listed.Written n)
+      → Gave (line_rows file s (header_of s) r position (length old)) (line_at file s (header_of s) r position) old new (Ok n)
       → json_numbers (take n new) ≡ map digits (keep is_bare (numbers_of (fields r position (event_at file s (header_of s) position))))
   -- a bare number is below two to the fifty-third, and no other number has its double
   pub bare_numbers : BareNumbers
@@ -178,14 +172,14 @@ pub record SecondDemand : Type 0 where
 -- what a buffer t of n slots shows after k accepted writes
 pub record Shows (mask k n : ℕ) (writes : List Write) (t : List ℕ) : Type 0 where
   -- the dump passes the whole check
-  pub passes : check_of t ≡ checked.Sound (header_of t) (min k n)
+  pub passes : check_of t ≡ Ok (sound_dump (header_of t) (min k n))
   -- "A reading whose rate, unit, serial and output room are accepted then lists the last min(k, n) events, oldest first, with pointer, field, id and
   -- information words as written." "Demand 3 from now on also asks that the file, where one is given, is accepted." (document 02, A7)
-  pub lists : (file : Option (List ℕ)) (r : Reading) (old new : List ℕ) (answer : Listed) → ReadingAccepted r (min k n) → Accepted (file_rows file)
+  pub lists : (file : Option (List ℕ)) (r : Reading) (old new : List ℕ) (answer : Result ℕ Refusal) → ReadingAccepted r (min k n) → Accepted (file_rows file)
       → let text = lines_of file t r (last_of n writes) in
       length text ≤ length old
       → Gave (listing_rows file t (header_of t) r (length old)) (listing_text file t (header_of t) r) old new answer
-      → (answer ≡ listed.Written (length text)) × (new ≡ text ++ drop (length text) old)
+      → (answer ≡ Ok (length text)) × (new ≡ text ++ drop (length text) old)
   -- "A true gap is the difference of the true times of two neighbouring listed events." (`true_gap`)
   -- "For each event, the shown ticks plus the timer range times the whole ranges contained in each true gap from the oldest listed event up to it, summed,
   -- is the true time since that oldest event."
@@ -204,7 +198,7 @@ pub record Shows (mask k n : ℕ) (writes : List Write) (t : List ℕ) : Type 0 
 -- accepted begins a new history.)
 abbrev pub ThirdDemandAt : ℕ → ℕ → (Slot → List ℕ → Change) → Type 0
 ThirdDemandAt k n recorder =
-    (f : Format) (s : List ℕ) (calls : List Call) → f.base < 2 ^ 32 → said (formatting f s) ≡ outcome.Done n → Each Typed calls
+    (f : Format) (s : List ℕ) (calls : List Call) → f.base < 2 ^ 32 → said (formatting f s) ≡ Ok n → Each Typed calls
     → let fresh = left (formatting f s) s in
     let writes = accepted_writes recorder calls fresh in
     NoneFormats recorder calls fresh → length writes ≡ k → Shows f.mask k n writes (after recorder calls fresh)

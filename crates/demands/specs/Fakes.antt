@@ -1,17 +1,13 @@
 -- The fakes that document 01 names: each breaks a promise or a demand.
-use Rattle.std.specs.Prelude.{ℕ, cond, List, [], ◌≡◌, eqb, length}
-use Rattle.std.proofs.Math.Option.{none}
+use Rattle.std.specs.Prelude.{ℕ, cond, List, [], ◌≡◌, eqb, length, None, Ok}
 use Rattle.events.specs.Listing.{Gave, listing_rows, listing_text}
-use Rattle.events.specs.declared.Listed.TheVariants.{Written}
 use Rattle.events.specs.declared.Reading.{Reading}
-use Rattle.rows.specs.Rows.{first_broken}
+use Rattle.rows.specs.Rows.{first_broken, answer_by}
 use Rattle.rows.specs.Told.{Told}
-use Rattle.rows.specs.declared.Verdict.TheVariants.{Passed}
-use Rattle.trace.specs.Check.{checked_by, check_of}
+use Rattle.trace.specs.Check.{check_of, sound_dump}
 use Rattle.trace.specs.Layout.{header_of, current_slot}
 use Rattle.trace.specs.Slots.{event_count}
 use Rattle.trace.specs.Table.{dump_rows}
-use Rattle.trace.specs.declared.Checked.TheVariants.{Sound}
 use Rattle.trace.specs.declared.Header.{Header}
 use Rattle.trace.specs.declared.Slot.{Slot}
 use Rattle.words.specs.Words.{put_word}
@@ -26,8 +22,8 @@ RefusesEverything = (s : List ℕ) → (told : Told) × (told.values ≡ []) × 
 -- one that refuses as it should, and otherwise lists nothing
 abbrev pub ListsNothing : Type 0
 ListsNothing =
-    (s : List ℕ) (r : Reading) (out : List ℕ) → first_broken (listing_rows none s (header_of s) r (length out)) ≡ Passed
-    → Gave (listing_rows none s (header_of s) r (length out)) (listing_text none s (header_of s) r) out out (Written 0)
+    (s : List ℕ) (r : Reading) (out : List ℕ) → first_broken (listing_rows None s (header_of s) r (length out)) ≡ Ok tt
+    → Gave (listing_rows None s (header_of s) r (length out)) (listing_text None s (header_of s) r) out out (Ok 0)
 
 -- a recorder that checks and answers as it should, and leaves another buffer
 abbrev leaving : (List ℕ → Header → Slot → List ℕ) → Slot → List ℕ → Change
@@ -43,7 +39,7 @@ first_only = leaving (λ s h slot. cond (eqb (current_slot h) 0) (recorded s h s
 
 -- a check that is right but for its event count
 abbrev pub CountsAs : (List ℕ → ℕ) → Type 0
-CountsAs invented = (s : List ℕ) → check_of s ≡ checked_by (first_broken (dump_rows s (header_of s))) (header_of s) (invented s)
+CountsAs invented = (s : List ℕ) → check_of s ≡ answer_by (first_broken (dump_rows s (header_of s))) (sound_dump (header_of s) (invented s))
 
 pub record Fakes : Type 0 where
   pub refuses_everything : RefusesEverything → ⊥
@@ -54,5 +50,5 @@ pub record Fakes : Type 0 where
   -- by demand 3 at k = 2, n = 2
   pub first-only : ThirdDemandAt 2 2 first_only → ⊥
   -- a count that is right is the number of used slots, of every dump that passes
-  pub invented_count : (invented : List ℕ → ℕ) → CountsAs invented → (s : List ℕ) (h : Header) (n : ℕ) → check_of s ≡ Sound h n
+  pub invented_count : (invented : List ℕ → ℕ) → CountsAs invented → (s : List ℕ) (h : Header) (n : ℕ) → check_of s ≡ Ok (sound_dump h n)
       → invented s ≡ event_count s (header_of s)

@@ -1,7 +1,6 @@
 -- Each line without its 0A is a JSON text of RFC 8259, and what `json_numbers` finds in such a text are its numbers.
-use Rattle.std.specs.Prelude.{ℕ, Bool, true, false, List, [], ◌∷◌, ◌++◌, map, ◌≡◌}
+use Rattle.std.specs.Prelude.{ℕ, Bool, true, false, List, [], ◌∷◌, ◌++◌, map, ◌≡◌, None, Option, Some}
 use Prim.Native.String.{String}
-use Rattle.std.proofs.Math.Option.{Option, none, some}
 use Rattle.events.specs.Events.{event_at}
 use Rattle.events.specs.Listing.{fields, line_at, title_in}
 use Rattle.events.specs.declared.Reading.{Reading}
@@ -38,8 +37,8 @@ abbrev pub labelled : String → List ℕ → Member
 labelled name text = record { name = ascii name; text = text }
 
 abbrev pub event_members : Option (Option (List ℕ)) → List Member
-event_members none = []
-event_members (some title) = labelled "event" (name title) ∷ []
+event_members None = []
+event_members (Some title) = labelled "event" (name title) ∷ []
 
 abbrev pub line_members : Line → Option (Option (List ℕ)) → Option (List ℕ) → List Member
 line_members l event n =
@@ -70,8 +69,8 @@ pub record IsObject (l : Line) (event : Option (Option (List ℕ))) (n : Option 
 
 -- an event's name, where the line has one
 abbrev pub IsTitle : Option (Option (List ℕ)) → Type 0
-IsTitle none = Unit {0}
-IsTitle (some title) = IsName title
+IsTitle None = Unit {0}
+IsTitle (Some title) = IsName title
 
 pub record JsonLines : Type 0 where
   pub line_object : (l : Line) (event : Option (Option (List ℕ))) (n : Option (List ℕ)) → IsTitle event → IsName n → IsObject l event n (line l event n)

@@ -1,6 +1,5 @@
 -- The numbers that a reader of JSON finds in a text: what stands in no string and is made of the bytes of numbers.
-use Rattle.std.specs.Prelude.{ℕ, zero, suc, Bool, cond, ◌&&◌, ◌||◌, List, [], ◌∷◌, ◌++◌, eqb, leb}
-use Rattle.std.proofs.Math.Option.{Option}
+use Rattle.std.specs.Prelude.{ℕ, zero, suc, Bool, cond, ◌&&◌, ◌||◌, List, [], ◌∷◌, ◌++◌, eqb, leb, Option}
 use Rattle.events.specs.Events.{event_at}
 use Rattle.events.specs.Listing.{fields}
 use Rattle.events.specs.declared.Reading.{Reading}

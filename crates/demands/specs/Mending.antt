@@ -1,22 +1,19 @@
 -- Mending (document 02, A2), of any dump that it accepts: what the copy is, where and why it differs from the dump, and that nothing is invented and nothing sound is lost.
-use Rattle.std.specs.Prelude.{ℕ, ◌+◌, ◌-◌, ◌≤◌, ◌<◌, Bool, true, false, cond, not, ◌&&◌, ◌||◌, List, [], ◌∷◌, ◌++◌, ◌≡◌, eqb, leb, ltb, drop, get_or, length, take}
-use Rattle.mending.specs.Mending.{copy_of, mend_of, mended_told, mending_rows, repairs_of}
-use Rattle.mending.specs.declared.Mended.TheVariants.{Copied}
+use Rattle.std.specs.Prelude.{ℕ, ◌+◌, ◌-◌, ◌≤◌, ◌<◌, Bool, true, false, cond, not, ◌&&◌, ◌||◌, List, [], ◌∷◌, ◌++◌, ◌≡◌, eqb, leb, ltb, drop, get_or, length, take, Ok}
+use Rattle.mending.specs.Mending.{copy_of, mend_of, mended_told, mending_rows, repairs_of, mended_copy}
 use Rattle.mending.specs.declared.Repairs.{Repairs}
 use Rattle.rows.specs.Lent.{left_in}
 use Rattle.rows.specs.Lowest.{count, lowest}
 use Rattle.rows.specs.Rows.{Accepted, first_broken}
 use Rattle.rows.specs.Told.{told_values}
-use Rattle.trace.specs.Check.{check_of}
+use Rattle.trace.specs.Check.{check_of, sound_dump}
 use Rattle.trace.specs.Layout.{buffer_end, current_slot, entry_at, entry_count, entry_size, header_of, header_size, registry_end, slot_at, slot_count, slot_size}
 use Rattle.trace.specs.Names.{find_name, name_of}
 use Rattle.trace.specs.Registry.{is_wanted}
 use Rattle.trace.specs.Ring.{keep, numbers_from, oldest_first, slot_of}
 use Rattle.trace.specs.Slots.{event_id, is_at_fault, is_fault, is_used, slot_in}
 use Rattle.trace.specs.Table.{row10}
-use Rattle.trace.specs.declared.Checked.TheVariants.{Sound}
 use Rattle.trace.specs.declared.Fault.TheVariants.{NoId, OutOfTurn}
-use Rattle.trace.specs.declared.Found.TheVariants.{Searched}
 use Rattle.trace.specs.declared.Header.{Header}
 use Rattle.trace.specs.declared.Wanted.TheVariants.{BadType}
 use Rattle.writing.specs.Keeping.{KeepsBytes, Outside}
@@ -73,7 +70,7 @@ pub record Packed (s t : List ℕ) (h : Header) : Type 0 where
 pub record Mends (s t : List ℕ) (h : Header) (r : Repairs) : Type 0 where
   -- "The copy ends at the buffer end", and "passes all checks", with as many events as slots came
   pub ends : length t ≡ buffer_end h
-  pub passes : check_of t ≡ Sound (header_of t) (length (came_of s))
+  pub passes : check_of t ≡ Ok (sound_dump (header_of t) (length (came_of s)))
   -- bytes of the header other than current stay
   pub header : (k : ℕ) → k < header_size → Outside 32 4 k → get_or t k 0 ≡ get_or s k 0
   -- an in-use entry with a bad type gets flag 1 and nothing else of it changes; other entries stay
@@ -94,28 +91,28 @@ pub record Mends (s t : List ℕ) (h : Header) (r : Repairs) : Type 0 where
   pub events : (p : ℕ) → p < length (came_of s) → SameAt s (slot_at h (get_or (came_of s) p 0)) t (slot_at h (slot_of t (header_of t) p)) (slot_size h)
   pub words : (p : ℕ) → p < length (came_of s) → slot_in h.order t (slot_at h (slot_of t (header_of t) p)) ≡ slot_in h.order s (slot_at h (get_or (came_of s) p 0))
   -- and every name is found that the dump's registry has, at the same place, of the same kind and with the same bytes
-  pub names : (pointer : ℕ) → (find_name t pointer ≡ Searched (name_of s h pointer)) × KeepsBytes s t (name_of s h pointer)
+  pub names : (pointer : ℕ) → (find_name t pointer ≡ Ok (name_of s h pointer)) × KeepsBytes s t (name_of s h pointer)
 
 abbrev pub no_repairs : Repairs
 no_repairs = record { missing = 0; current = 0; types = 0; ids = 0; packed = 0; moved = 0 }
 
 pub record Mending : Type 0 where
   -- "Report six counts, in that order": what is told of a copy is its length, and then these
-  pub reports : (n : ℕ) (r : Repairs) → mended_told (Copied n r) ≡ told_values (n ∷ r.missing ∷ r.current ∷ r.types ∷ r.ids ∷ r.packed ∷ r.moved ∷ [])
+  pub reports : (n : ℕ) (r : Repairs) → mended_told (Ok (mended_copy n r)) ≡ told_values (n ∷ r.missing ∷ r.current ∷ r.types ∷ r.ids ∷ r.packed ∷ r.moved ∷ [])
   -- what an accepted call gives and leaves: the copy's length and the counts; the copy stands at the front of the output, whose bytes past it stay
-  pub gives : (s old : List ℕ) (n : ℕ) (r : Repairs) → mend_of s (length old) ≡ Copied n r
+  pub gives : (s old : List ℕ) (n : ℕ) (r : Repairs) → mend_of s (length old) ≡ Ok (mended_copy n r)
       → let copy = copy_of s (header_of s) in
       (n ≡ length copy) × (r ≡ repairs_of s (header_of s)) × (left_in old (first_broken (mending_rows s (header_of s) (length old))) copy ≡ copy ++ drop n old)
   pub mends : (s : List ℕ) (room : ℕ) → Accepted (mending_rows s (header_of s) room) → Mends s (copy_of s (header_of s)) (header_of s) (repairs_of s (header_of s))
   -- "a dump that passes already keeps its bytes up to the buffer end, with six zeros", where there is room
-  pub sound : (s : List ℕ) (h : Header) (n room : ℕ) → check_of s ≡ Sound h n → buffer_end (header_of s) ≤ room
-      → (mend_of s room ≡ Copied (buffer_end (header_of s)) no_repairs) × (copy_of s (header_of s) ≡ take (buffer_end (header_of s)) s)
+  pub sound : (s : List ℕ) (h : Header) (n room : ℕ) → check_of s ≡ Ok (sound_dump h n) → buffer_end (header_of s) ≤ room
+      → (mend_of s room ≡ Ok (mended_copy (buffer_end (header_of s)) no_repairs)) × (copy_of s (header_of s) ≡ take (buffer_end (header_of s)) s)
   -- and so does a copy, which is mended to itself, with six zeros, where there is room for it
   pub again : (s : List ℕ) (room more : ℕ) → Accepted (mending_rows s (header_of s) room)
       → let copy = copy_of s (header_of s) in
-      length copy ≤ more → (mend_of copy more ≡ Copied (length copy) no_repairs) × (copy_of copy (header_of copy) ≡ copy)
+      length copy ≤ more → (mend_of copy more ≡ Ok (mended_copy (length copy) no_repairs)) × (copy_of copy (header_of copy) ≡ copy)
   -- of the first n bytes of a sound dump, where the registry is among them, the events are mended that came whole, in their order
-  pub cut : (s : List ℕ) (h : Header) (m n room : ℕ) → check_of s ≡ Sound h m → registry_end (header_of s) ≤ n → buffer_end (header_of s) ≤ room
+  pub cut : (s : List ℕ) (h : Header) (m n room : ℕ) → check_of s ≡ Ok (sound_dump h m) → registry_end (header_of s) ≤ n → buffer_end (header_of s) ≤ room
       → let came = take n s in
       Accepted (mending_rows came (header_of came) room) × (header_of came ≡ header_of s)
       × (came_of came ≡ keep (λ i. leb (slot_at (header_of s) i + slot_size (header_of s)) (length came)) (oldest_first s (header_of s)))

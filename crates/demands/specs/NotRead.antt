@@ -1,11 +1,10 @@
 -- Reserved fields and bytes past the buffer end may hold anything and are not read: dumps that differ only there, or go on further past both ends, up to 65,536 bytes, get the same answers.
-use Rattle.std.specs.Prelude.{ℕ, ◌+◌, ◌≤◌, ◌<◌, List, ◌⊎◌, ◌≡◌, get_or, length}
-use Rattle.std.proofs.Math.Option.{Option}
+use Rattle.std.specs.Prelude.{ℕ, ◌+◌, ◌≤◌, ◌<◌, List, ◌⊎◌, ◌≡◌, get_or, length, Option, Result}
 use Rattle.events.specs.Events.{event_of}
 use Rattle.events.specs.Listing.{Gave, line_at, line_rows, listing_rows, listing_text}
-use Rattle.events.specs.declared.Listed.{Listed}
 use Rattle.events.specs.declared.Reading.{Reading}
 use Rattle.naming.specs.Finding.{find_name_with}
+use Rattle.rows.specs.declared.Refusal.{Refusal}
 use Rattle.trace.specs.Check.{check_of}
 use Rattle.trace.specs.Layout.{header_of, header_size, most_bytes, registry_end, buffer_end, entry_at, entry_count}
 use Rattle.trace.specs.Names.{name_bytes, name_found}
@@ -55,10 +54,10 @@ pub record SameAnswers (s t : List ℕ) : Type 0 where
   pub event : (file : Option (List ℕ)) (position : ℕ) → event_of file t position ≡ event_of file s position
   pub event_name : (file : Option (List ℕ)) (position : ℕ)
       → let was = name_shown (event_of file s position) in name_bytes file t was ≡ name_bytes file s was
-  pub listing : (file : Option (List ℕ)) (r : Reading) (old new : List ℕ) (said : Listed)
+  pub listing : (file : Option (List ℕ)) (r : Reading) (old new : List ℕ) (said : Result ℕ Refusal)
       → Gave (listing_rows file s (header_of s) r (length old)) (listing_text file s (header_of s) r) old new said
       → Gave (listing_rows file t (header_of t) r (length old)) (listing_text file t (header_of t) r) old new said
-  pub line : (file : Option (List ℕ)) (r : Reading) (position : ℕ) (old new : List ℕ) (said : Listed)
+  pub line : (file : Option (List ℕ)) (r : Reading) (position : ℕ) (old new : List ℕ) (said : Result ℕ Refusal)
       → Gave (line_rows file s (header_of s) r position (length old)) (line_at file s (header_of s) r position) old new said
       → Gave (line_rows file t (header_of t) r position (length old)) (line_at file t (header_of t) r position) old new said
   pub recording : (slot : Slot) → said (recording slot t) ≡ said (recording slot s)

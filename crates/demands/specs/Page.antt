@@ -1,10 +1,8 @@
 -- What a page reads where a call wrote a number: of bare digits a double, of a string its characters; and when it takes two for one.
-use Rattle.std.specs.Prelude.{ℕ, zero, suc, ◌<◌, cond, List, [], ◌∷◌, ◌≡◌, eqb, Float, pos, drop, length, take}
-use Rattle.std.proofs.Math.Option.{Option}
+use Rattle.std.specs.Prelude.{ℕ, zero, suc, ◌<◌, cond, List, [], ◌∷◌, ◌≡◌, eqb, Float, pos, drop, length, take, Ok, Option}
 use Rattle.std.specs.Float.{binary64}
 use Rattle.std.specs.Float.Ieee.{of_int}
 use Rattle.events.specs.Listing.{Gave, line_at, line_rows, listing_rows, listing_text}
-use Rattle.events.specs.declared.Listed.TheVariants.{Written}
 use Rattle.events.specs.declared.Reading.{Reading}
 use Rattle.text.specs.Ascii.{ascii}
 use Rattle.text.specs.ReadBack.{decimal, inside, is_quoted}
@@ -55,8 +53,8 @@ key_text line = up_to 0x2C (drop (length (ascii "{\"key\":")) line)
 -- a line that was written for the event at a position of a reading, with a name file or without: in a listing, or by itself
 pub data WrittenLine (r : Reading) (p : ℕ) (line : List ℕ) : Type 0 where
   in_listing : (file : Option (List ℕ)) (s old new : List ℕ) (n : ℕ)
-      → Gave (listing_rows file s (header_of s) r (length old)) (listing_text file s (header_of s) r) old new (Written n)
+      → Gave (listing_rows file s (header_of s) r (length old)) (listing_text file s (header_of s) r) old new (Ok n)
       → p < event_count s (header_of s) → line ≡ line_in (take n new) p → WrittenLine r p line
   by_itself : (file : Option (List ℕ)) (s old new : List ℕ) (n : ℕ)
-      → Gave (line_rows file s (header_of s) r p (length old)) (line_at file s (header_of s) r p) old new (Written n)
+      → Gave (line_rows file s (header_of s) r p (length old)) (line_at file s (header_of s) r p) old new (Ok n)
       → line ≡ line_in (take n new) 0 → WrittenLine r p line

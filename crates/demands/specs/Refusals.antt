@@ -1,6 +1,5 @@
 -- Refusals in the words of document 01, as 02 amends it: a call is refused by the first row, in its order of checks, that is broken; and the orders, as numbers and places.
-use Rattle.std.specs.Prelude.{ℕ, ◌-◌, true, false, List, [], ◌∷◌, ◌++◌, map, ◌≡◌, length}
-use Rattle.std.proofs.Math.Option.{Option, none, some}
+use Rattle.std.specs.Prelude.{ℕ, ◌-◌, true, false, List, [], ◌∷◌, ◌++◌, map, ◌≡◌, length, None, Option, Some}
 use Rattle.naming.specs.Finding.{finding_rows}
 use Rattle.naming.specs.Records.{first_record, record_at}
 use Rattle.naming.specs.declared.Sought.TheVariants.{Damaged}
@@ -78,8 +77,8 @@ dump_order s h = registry_order s h ++ (given_at 12 (lowest (is_at_fault OutOfTu
 
 -- a name file, where one is given: 2, then 27 with the lowest damaged record's offset
 abbrev pub file_order : Option (List ℕ) → List Refusal
-file_order none = []
-file_order (some f) = given_at 2 0 ∷ given_at 27 (record_at f (first_record Damaged f)) ∷ []
+file_order None = []
+file_order (Some f) = given_at 2 0 ∷ given_at 27 (record_at f (first_record Damaged f)) ∷ []
 
 -- orders of checks; 26 is the last part of checks 7 and 9, so that 1 to 10 have it twice
 pub record Orders : Type 0 where

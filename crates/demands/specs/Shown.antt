@@ -1,6 +1,5 @@
 -- What a listing shows of writes: a line for each, oldest first, with its words as written.
-use Rattle.std.specs.Prelude.{ℕ, suc, ◌+◌, ◌^◌, ◌≤◌, ◌<◌, List, [], ◌∷◌, ◌++◌}
-use Rattle.std.proofs.Math.Option.{Option, none, some}
+use Rattle.std.specs.Prelude.{ℕ, suc, ◌+◌, ◌^◌, ◌≤◌, ◌<◌, List, [], ◌∷◌, ◌++◌, None, Option, Some}
 use Rattle.events.specs.Events.{context_of, name_for}
 use Rattle.events.specs.declared.Reading.{Reading}
 use Rattle.naming.specs.Records.{name_in}
@@ -10,8 +9,8 @@ use Rattle.text.specs.declared.Line.{Line}
 use Rattle.trace.specs.Keys.{key}
 use Rattle.trace.specs.Layout.{header_of}
 use Rattle.trace.specs.Names.{is_gone, name_bytes}
-use Rattle.trace.specs.declared.Name.{Name}
 use Rattle.trace.specs.Times.{microseconds, ticks_of}
+use Rattle.trace.specs.declared.Name.{Name}
 use Rattle.demands.specs.History.{Write, given}
 
 -- the ticks that a buffer shows at a position, and their microseconds
@@ -22,10 +21,10 @@ abbrev pub shown_microseconds : List ℕ → Reading → ℕ → ℕ
 shown_microseconds t r position = microseconds (shown_ticks t position) r.rate
 
 -- the name that the registry has for a write when the buffer is read, or the name file, where one is given; and the one that the file has for its id
-abbrev pub name_when_read : Option (List ℕ) → List ℕ → Write → Name
+abbrev pub name_when_read : Option (List ℕ) → List ℕ → Write → Option Name
 name_when_read file t w = name_for (context_of w.pointer) file t (header_of t) (given w)
 
-abbrev pub title_when_read : Option (List ℕ) → Write → Name
+abbrev pub title_when_read : Option (List ℕ) → Write → Option Name
 title_when_read file w = name_in Event file w.id
 
 -- what the line says of a write at a position: pointer, field, id and information words as written, and whether its name is a thread's that is gone
@@ -44,8 +43,8 @@ words_of file t r position w = record {
 
 -- "event", where a name file is given: its bytes, or none
 abbrev pub event_for : Option (List ℕ) → List ℕ → Write → Option (Option (List ℕ))
-event_for none t w = none
-event_for (some f) t w = some (name_bytes (some f) t (title_when_read (some f) w))
+event_for None t w = None
+event_for (Some f) t w = Some (name_bytes (Some f) t (title_when_read (Some f) w))
 
 -- the line, with the names
 abbrev pub line_for : Option (List ℕ) → List ℕ → Reading → ℕ → Write → List ℕ

@@ -1,6 +1,5 @@
 -- What is printed, as its reader sees it: it reads back, no two print alike, no line is longer than its bound, and 0 says that there was no room.
-use Rattle.std.specs.Prelude.{ℕ, ◌+◌, ◌*◌, ◌≤◌, ◌<◌, List, ◌++◌, ◌≡◌, length, drop}
-use Rattle.std.proofs.Math.Option.{Option}
+use Rattle.std.specs.Prelude.{ℕ, ◌+◌, ◌*◌, ◌≤◌, ◌<◌, List, ◌++◌, ◌≡◌, length, drop, Option}
 use Rattle.text.specs.Lines.{Fit64, bound, event_size, line, name_size, numbers_in, parts}
 use Rattle.text.specs.Names.{name}
 use Rattle.text.specs.Numbers.{digits, number}

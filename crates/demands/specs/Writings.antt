@@ -1,20 +1,15 @@
 -- What a user may ask of the calls that write, of any buffer and any arguments, in either byte order, where they are accepted.
-use Rattle.std.specs.Prelude.{ℕ, suc, ◌+◌, ◌≤◌, ◌<◌, min, true, List, ◌≡◌, length, get_or, drop, take}
-use Rattle.std.proofs.Math.Option.{Option, some}
+use Rattle.std.specs.Prelude.{ℕ, suc, ◌+◌, ◌≤◌, ◌<◌, min, true, List, ◌≡◌, length, get_or, drop, take, None, Ok, Option, Some}
 use Rattle.naming.specs.Writing.{record_bytes, record_size}
 use Rattle.naming.specs.declared.Subject.{Subject}
 use Rattle.rows.specs.Rows.{first_broken}
-use Rattle.rows.specs.declared.Verdict.TheVariants.{Passed}
-use Rattle.trace.specs.Check.{check_of}
+use Rattle.trace.specs.Check.{check_of, sound_dump}
 use Rattle.trace.specs.Layout.{header_of, buffer_start, current_at, current_slot, entry_count, slot_at, slot_count, entry_at, entry_size, most_bytes, slot_size, with_current}
 use Rattle.trace.specs.Names.{entry_name, find_name, name_bytes, name_if_entry, name_of, thread_entry, thread_name}
 use Rattle.trace.specs.Registry.{is_wanted, type_at}
 use Rattle.trace.specs.Slots.{slot_in}
 use Rattle.trace.specs.Table.{registry_rows}
-use Rattle.trace.specs.declared.Checked.TheVariants.{Sound}
-use Rattle.trace.specs.declared.Found.TheVariants.{Searched}
 use Rattle.trace.specs.declared.Header.{Header}
-use Rattle.trace.specs.declared.Name.TheVariants.{Nameless}
 use Rattle.trace.specs.declared.Slot.{Slot}
 use Rattle.trace.specs.declared.ThreadKind.TheVariants.{Gone, Live}
 use Rattle.trace.specs.declared.Wanted.TheVariants.{Free, InUse, Thread}
@@ -32,7 +27,7 @@ pub record Formatted (f : Format) (s t : List ℕ) (h : Header) : Type 0 where
   pub header : header_of t ≡ h
   pub current : current_at h ≡ buffer_start h
   -- it passes the whole check, with event count 0
-  pub sound : check_of t ≡ Sound h 0
+  pub sound : check_of t ≡ Ok (sound_dump h 0)
   -- it has the entries asked for, each free, and as many slots as fit: at least one, and there is no room for one more
   pub entries : entry_count h ≡ f.entries
   pub free : (i : ℕ) → i < f.entries → is_wanted Free t h i ≡ true
@@ -44,7 +39,7 @@ pub record Formatted (f : Format) (s t : List ℕ) (h : Header) : Type 0 where
   pub size : length t ≡ length s
   -- no pointer is in use twice, and nobody has a name: free entries are of type 0
   pub one_each : OneEach t h
-  pub nobody : (pointer : ℕ) → find_name t pointer ≡ Searched Nameless
+  pub nobody : (pointer : ℕ) → find_name t pointer ≡ Ok None
 
 -- what recording leaves, t, of a buffer s with header h
 pub record Recorded (slot : Slot) (s t : List ℕ) (h : Header) : Type 0 where
@@ -58,7 +53,7 @@ pub record Recorded (slot : Slot) (s t : List ℕ) (h : Header) : Type 0 where
   pub header : header_of t ≡ with_current h (next_pointer h)
   pub moved : current_slot (header_of t) ≡ next_slot h
   -- a sound dump stays sound, with one event more, or as many as there are slots
-  pub sound : (n : ℕ) → check_of s ≡ Sound h n → check_of t ≡ Sound (header_of t) (min (suc n) (slot_count h))
+  pub sound : (n : ℕ) → check_of s ≡ Ok (sound_dump h n) → check_of t ≡ Ok (sound_dump (header_of t) (min (suc n) (slot_count h)))
   -- no name changes
   pub names : (pointer : ℕ) → SameName s t pointer
   pub one_each : OneEach s h → OneEach t (header_of t)
@@ -79,17 +74,17 @@ pub record Registered (object : Object) (name s t : List ℕ) (h : Header) : Typ
   pub in_use : is_wanted (InUse object.pointer) t h (lowest_entry Free s h) ≡ true
   pub type : type_at t (entry_at h (lowest_entry Free s h)) ≡ object.object_type
   -- where rows 1 to 11 pass, a thread's name is found by its pointer, live, cut to the name size
-  pub found : object.object_type ≡ 1 → first_broken (registry_rows s h) ≡ Passed → find_name t object.pointer ≡ Searched (entered s h name)
-  pub bytes : (file : Option (List ℕ)) → name_bytes file t (entered s h name) ≡ some (take h.name_size name)
+  pub found : object.object_type ≡ 1 → first_broken (registry_rows s h) ≡ Ok tt → find_name t object.pointer ≡ Ok (entered s h name)
+  pub bytes : (file : Option (List ℕ)) → name_bytes file t (entered s h name) ≡ Some (take h.name_size name)
   -- no other name changes, unless the entry had it, from a thread that is gone: where rows 1 to 11 pass, found is then the name of the lowest other thread that
   -- is gone and has the pointer, or none
-  pub others : (pointer : ℕ) → Aside object pointer → (name_of s h pointer ≡ entry_name Gone s h (lowest_entry Free s h) → ⊥) → SameName s t pointer
-  pub reused : first_broken (registry_rows s h) ≡ Passed → (pointer : ℕ) → Aside object pointer → name_of s h pointer ≡ entry_name Gone s h (lowest_entry Free s h)
+  pub others : (pointer : ℕ) → Aside object pointer → (name_of s h pointer ≡ Some (entry_name Gone s h (lowest_entry Free s h)) → ⊥) → SameName s t pointer
+  pub reused : first_broken (registry_rows s h) ≡ Ok tt → (pointer : ℕ) → Aside object pointer → name_of s h pointer ≡ Some (entry_name Gone s h (lowest_entry Free s h))
       → FoundNow s t pointer (name_if_entry Gone s h (other_thread Gone s h pointer (lowest_entry Free s h)))
   -- no event changes
   pub events : SameEvents s t h
   -- a sound dump stays sound
-  pub sound : (n : ℕ) → check_of s ≡ Sound h n → check_of t ≡ Sound h n
+  pub sound : (n : ℕ) → check_of s ≡ Ok (sound_dump h n) → check_of t ≡ Ok (sound_dump h n)
   pub one_each : OneEach s h → OneEach t h
 
 -- an entry is of type 1, and no other in-use entry of type 1 has the pointer
@@ -105,20 +100,20 @@ pub record Removed (pointer : ℕ) (s t : List ℕ) (h : Header) : Type 0 where
   pub header : header_of t ≡ h
   -- of names where rows 1 to 11 pass: that of a thread whose pointer no other live one has is found as gone, from the lowest entry of a thread that is gone and
   -- has the pointer, which is the one removed unless such a one is lower, with its bytes as they were
-  pub gone : first_broken (registry_rows s h) ≡ Passed → IsOnly s h pointer (lowest_entry (InUse pointer) s h)
-      → FoundNow s t pointer (entry_name Gone s h (min (thread_entry Gone s h pointer) (lowest_entry (InUse pointer) s h)))
+  pub gone : first_broken (registry_rows s h) ≡ Ok tt → IsOnly s h pointer (lowest_entry (InUse pointer) s h)
+      → FoundNow s t pointer (Some (entry_name Gone s h (min (thread_entry Gone s h pointer) (lowest_entry (InUse pointer) s h))))
   -- where another live thread has the pointer, the lowest of those is found
-  pub still : first_broken (registry_rows s h) ≡ Passed → other_thread Live s h pointer (lowest_entry (InUse pointer) s h) < entry_count h
-      → FoundNow s t pointer (entry_name Live s h (other_thread Live s h pointer (lowest_entry (InUse pointer) s h)))
+  pub still : first_broken (registry_rows s h) ≡ Ok tt → other_thread Live s h pointer (lowest_entry (InUse pointer) s h) < entry_count h
+      → FoundNow s t pointer (Some (entry_name Live s h (other_thread Live s h pointer (lowest_entry (InUse pointer) s h))))
   -- its entry is free, and is the one that the next registration uses unless a lower one is free
   pub freed : is_wanted Free t h (lowest_entry (InUse pointer) s h) ≡ true
   pub free : lowest_entry Free t h ≡ min (lowest_entry Free s h) (lowest_entry (InUse pointer) s h)
   -- where rows 1 to 11 pass, no other name changes, and none at all where it was no thread's that was removed
-  pub others : first_broken (registry_rows s h) ≡ Passed → (other : ℕ) → (type_at s (entry_at h (lowest_entry (InUse pointer) s h)) ≡ 1 → other ≡ pointer → ⊥) → SameName s t other
+  pub others : first_broken (registry_rows s h) ≡ Ok tt → (other : ℕ) → (type_at s (entry_at h (lowest_entry (InUse pointer) s h)) ≡ 1 → other ≡ pointer → ⊥) → SameName s t other
   -- no event changes
   pub events : SameEvents s t h
   -- a sound dump stays sound
-  pub sound : (n : ℕ) → check_of s ≡ Sound h n → check_of t ≡ Sound h n
+  pub sound : (n : ℕ) → check_of s ≡ Ok (sound_dump h n) → check_of t ≡ Ok (sound_dump h n)
   pub one_each : OneEach s h → OneEach t h
 
 -- a thread is removed, and an object, but no thread with that pointer, is then registered in the entry that it had: where rows 1 to 11 pass, its name is found
@@ -126,7 +121,7 @@ pub record Removed (pointer : ℕ) (s t : List ℕ) (h : Header) : Type 0 where
 abbrev pub Reused : ℕ → Object → List ℕ → List ℕ → Type 0
 Reused pointer object name s =
     let between = left (removing pointer s) s in
-    first_broken (registry_rows s (header_of s)) ≡ Passed → IsOnly s (header_of s) pointer (lowest_entry (InUse pointer) s (header_of s))
+    first_broken (registry_rows s (header_of s)) ≡ Ok tt → IsOnly s (header_of s) pointer (lowest_entry (InUse pointer) s (header_of s))
     → lowest_entry Free between (header_of s) ≡ lowest_entry (InUse pointer) s (header_of s) → Aside object pointer
     → FoundNow s (left (registering object name between) between) pointer (thread_name Gone s (header_of s) pointer)
 

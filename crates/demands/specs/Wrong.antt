@@ -1,6 +1,5 @@
 -- Statements next to true ones that are false: two of document 01's slips, as what they take for granted, and limits and conditions of the demands moved or left out.
-use Rattle.std.specs.Prelude.{ℕ, suc, ◌+◌, ◌-◌, ◌^◌, ◌≤◌, ◌<◌, min, false, List, ◌++◌, ◌⊎◌, ◌≡◌, length}
-use Rattle.std.proofs.Math.Option.{some}
+use Rattle.std.specs.Prelude.{ℕ, suc, ◌+◌, ◌-◌, ◌^◌, ◌≤◌, ◌<◌, min, false, List, ◌++◌, ◌⊎◌, ◌≡◌, length, Err, None, Ok, Some}
 use Rattle.events.specs.declared.Reading.{Reading}
 use Rattle.naming.specs.Records.{file_rows, name_in}
 use Rattle.naming.specs.Writing.{record_bytes}
@@ -8,16 +7,13 @@ use Rattle.naming.specs.declared.Subject.{Subject}
 use Rattle.rows.specs.Rows.{Accepted}
 use Rattle.rows.specs.declared.Refusal.{Refusal}
 use Rattle.text.specs.Numbers.{digits, number}
-use Rattle.trace.specs.Check.{check_of}
+use Rattle.trace.specs.Check.{check_of, sound_dump}
 use Rattle.trace.specs.Layout.{header_of, most_bytes, registry_end}
 use Rattle.trace.specs.Names.{find_name, name_bytes}
 use Rattle.trace.specs.Slots.{event_count}
 use Rattle.trace.specs.Table.{before_ends, dump_rows, registry_rows, row4}
 use Rattle.trace.specs.Times.{microseconds, stamp_of}
-use Rattle.trace.specs.declared.Checked.TheVariants.{Refused, Sound}
-use Rattle.trace.specs.declared.Found.TheVariants.{Searched}
 use Rattle.trace.specs.declared.Header.{Header}
-use Rattle.trace.specs.declared.Name.TheVariants.{Nameless}
 use Rattle.trace.specs.declared.Slot.{Slot}
 use Rattle.words.specs.Each.{Each}
 use Rattle.writing.specs.Arguments.{IsSlot}
@@ -25,7 +21,6 @@ use Rattle.writing.specs.Keeping.{OneEach, SameName}
 use Rattle.writing.specs.Writing.{formatting, left, recording, registering, removing, said}
 use Rattle.writing.specs.declared.Format.{Format}
 use Rattle.writing.specs.declared.Object.{Object}
-use Rattle.writing.specs.declared.Outcome.TheVariants.{Done}
 use Rattle.demands.specs.History.{Call, NeverBack, NoneFormats, Typed, accepted_writes, after, last_of, since_oldest}
 use Rattle.demands.specs.Keys.{key_at}
 use Rattle.demands.specs.NotRead.{SameAnswers}
@@ -57,19 +52,19 @@ SerialsTouch =
 
 -- every refusal of the check with place 0
 abbrev pub NoPlaces : Type 0
-NoPlaces = (s : List ℕ) (f : Refusal) → check_of s ≡ Refused f → f.place ≡ 0
+NoPlaces = (s : List ℕ) (f : Refusal) → check_of s ≡ Err f → f.place ≡ 0
 
 -- an event more with every write, also where the slots are used up
 abbrev pub CountGrows : Type 0
 CountGrows =
-    (slot : Slot) (s : List ℕ) (n : ℕ) → IsSlot slot → Accepted (recording slot s).rows → check_of s ≡ Sound (header_of s) n
-    → let t = left (recording slot s) s in check_of t ≡ Sound (header_of t) (suc n)
+    (slot : Slot) (s : List ℕ) (n : ℕ) → IsSlot slot → Accepted (recording slot s).rows → check_of s ≡ Ok (sound_dump (header_of s) n)
+    → let t = left (recording slot s) s in check_of t ≡ Ok (sound_dump (header_of t) (suc n))
 
 -- a removed thread's name is found no more (as it was before document 02, A5)
 abbrev pub NameLost : Type 0
 NameLost =
     (pointer : ℕ) (s : List ℕ) → Accepted (removing pointer s).rows → Accepted (registry_rows s (header_of s)) → OneEach s (header_of s)
-    → find_name (left (removing pointer s) s) pointer ≡ Searched Nameless
+    → find_name (left (removing pointer s) s) pointer ≡ Ok None
 
 -- registering changes no name but the new one, also where its entry had one from a thread that is gone
 abbrev pub OthersKept : Type 0
@@ -85,17 +80,17 @@ AlwaysAppended = (s more : List ℕ) → length (s ++ more) ≤ most_bytes → S
 abbrev pub NonsenseCut : Type 0
 NonsenseCut =
     (s : List ℕ) → Accepted (before_ends (header_of s) (length s)) → length s < registry_end (header_of s) → registry_end (header_of s) ≤ most_bytes
-    → (k : ℕ) × (check_of s ≡ Refused (given_at 26 k))
+    → (k : ℕ) × (check_of s ≡ Err (given_at 26 k))
 
 -- where 26 was given and that many bytes are appended, no 26 is given at all, also where it was the registry end that was missed
 abbrev pub CutOnce : Type 0
 CutOnce =
-    (s more : List ℕ) (k j : ℕ) → check_of s ≡ Refused (given_at 26 k) → length more ≡ k → check_of (s ++ more) ≡ Refused (given_at 26 j) → ⊥
+    (s more : List ℕ) (k j : ℕ) → check_of s ≡ Err (given_at 26 k) → length more ≡ k → check_of (s ++ more) ≡ Err (given_at 26 j) → ⊥
 
 -- the shown ticks are the true time, also where a true gap reaches the range
 abbrev pub AlwaysExact : Type 0
 AlwaysExact =
-    (f : Format) (s : List ℕ) (calls : List Call) (n p : ℕ) → f.base < 2 ^ 32 → said (formatting f s) ≡ Done n → Each Typed calls
+    (f : Format) (s : List ℕ) (calls : List Call) (n p : ℕ) → f.base < 2 ^ 32 → said (formatting f s) ≡ Ok n → Each Typed calls
     → let fresh = left (formatting f s) s in
     let writes = accepted_writes recording calls fresh in
     NoneFormats recording calls fresh → NeverBack writes → p < min (length writes) n
@@ -105,8 +100,8 @@ AlwaysExact =
 abbrev pub LastCounts : Type 0
 LastCounts =
     (subject : Subject) (number : ℕ) (name other dump : List ℕ)
-    → let file = some (record_bytes subject number name ++ record_bytes subject number other) in
-    Accepted (file_rows file) → name_bytes file dump (name_in subject file number) ≡ some other
+    → let file = Some (record_bytes subject number name ++ record_bytes subject number other) in
+    Accepted (file_rows file) → name_bytes file dump (name_in subject file number) ≡ Some other
 
 pub record Wrong : Type 0 where
   pub stamps_rise : StampsRise → ⊥

@@ -1,27 +1,30 @@
 // lepsaino mend FILE COPY: writes a repaired copy of a dump to a new file, and prints its length and what was mended as one line.
 // A refusal and an error are as for a listing, and leave no file.
-use crate::shared::{Took, argument, argument_count, print_refused, read_file, say};
-use console::{fail, path_of};
-use mending::{Mended, Repairs};
+use crate::shared::{Failure, Fault, argument_count, path_at, read_file};
+use console::path_of;
+use mending::Mended;
 use std::fs::{File, OpenOptions};
 use std::io::Write;
-use std::{fs, io};
-
-fn print_count(rt: &HostRuntime, label: &[u8], count: usize) {
-    let _ = Print::write_all(rt, label);
-    let _ = rt.print(count);
-}
+use std::{fmt, fs, io};
 
 // The copy's length and the six counts, each under its name.
-fn print_repairs(rt: &HostRuntime, length: usize, repairs: Repairs) {
-    print_count(rt, b"{\"length\":", length);
-    print_count(rt, b",\"missing\":", repairs.missing);
-    print_count(rt, b",\"current\":", repairs.current);
-    print_count(rt, b",\"types\":", repairs.types);
-    print_count(rt, b",\"ids\":", repairs.ids);
-    print_count(rt, b",\"packed\":", repairs.packed);
-    print_count(rt, b",\"moved\":", repairs.moved);
-    let _ = Print::write_all(rt, b"}\n");
+#[derive(Drop)]
+struct Report(Mended);
+
+impl fmt::Display for Report {
+    fn fmt<W: fmt::Write>(&self, f: &mut fmt::Formatter<W>) -> fmt::Result {
+        let Mended { length, repairs } = self.0;
+        write!(
+            f,
+            "{{\"length\":{length},\"missing\":{},\"current\":{}",
+            repairs.missing, repairs.current
+        )?;
+        write!(
+            f,
+            ",\"types\":{},\"ids\":{},\"packed\":{},\"moved\":{}}}",
+            repairs.types, repairs.ids, repairs.packed, repairs.moved
+        )
+    }
 }
 
 // Writes all bytes, and waits until its device has them.
@@ -41,72 +44,53 @@ fn remove(rt: &HostRuntime, path: &[u8]) -> io::Result<()> {
     fs::remove_file(rt, path_of(path)?)
 }
 
-// Fills a new file with these bytes. Where not all can be written none are kept, and a line on standard error says why.
-fn fill(rt: &HostRuntime, path: &[u8], mut file: File, bytes: &[u8]) -> bool {
-    if let Err(error) = write_whole(&mut file, bytes) {
-        fail(rt, b"COPY cannot be written", error);
+// Makes a new file of these bytes. Where not all can be written none are kept.
+fn keep(rt: &HostRuntime, path: &[u8], bytes: &[u8]) -> Result<(), Failure<'static>> {
+    let mut file = create(rt, path).map_err(|error| Failure {
+        what: b"COPY cannot be made",
+        error,
+    })?;
+    write_whole(&mut file, bytes).map_err(|error| {
         let _ = remove(rt, path);
-        return false;
-    }
-    true
-}
-
-// Makes a new file of these bytes. Where not all can be written none are kept, and a line on standard error says why.
-fn keep(rt: &HostRuntime, path: &[u8], bytes: &[u8]) -> bool {
-    match create(rt, path) {
-        Ok(file) => fill(rt, path, file, bytes),
-        Err(error) => {
-            fail(rt, b"COPY cannot be made", error);
-            false
+        Failure {
+            what: b"COPY cannot be written",
+            error,
         }
-    }
+    })
 }
 
-// Nothing is printed where the copy is not kept.
-fn keep_and_print(rt: &HostRuntime, path: &[u8], copy: &[u8], length: usize, repairs: Repairs) {
-    if length <= copy.len() {
-        if keep(rt, path, &copy[..length]) {
-            print_repairs(rt, length, repairs);
-        }
-    }
-}
-
-// No copy is longer than the space.
-fn mend_dump(rt: &HostRuntime, dump: &[u8], path: &[u8]) {
+// No copy is longer than the space. Nothing is printed where the copy is not kept.
+fn mend_dump(rt: &HostRuntime, dump: &[u8], path: &[u8]) -> Result<(), Failure<'static>> {
     let mut space = [0u8; 65536];
-    let copy: &mut [u8] = &mut space;
-    match mender::mend(dump, copy) {
-        Mended::Refused(refusal) => print_refused(rt, refusal),
-        Mended::Copied { length, repairs } => keep_and_print(rt, path, copy, length, repairs),
+    match mender::mend(dump, &mut space) {
+        Err(refusal) => {
+            let _ = println!(rt; "{refusal}");
+        }
+        Ok(mended) => {
+            if let Some(copy) = space.get(..mended.length) {
+                keep(rt, path, copy)?;
+                let _ = println!(rt; "{}", Report(mended));
+            }
+        }
     }
+    Ok(())
 }
 
-fn mend_file(rt: &HostRuntime, from: &[u8], to: &[u8]) {
+fn mend_file<'p>(rt: &HostRuntime, from: &'p [u8], to: &[u8]) -> Result<(), Failure<'p>> {
     let mut space = [0u8; 65537];
-    if let Took::Bytes(n) = read_file(rt, from, &mut space) {
-        mend_dump(rt, &space[..n], to);
-    }
+    mend_dump(rt, read_file(rt, from, &mut space)?, to)
 }
 
-pub(crate) fn mend_by_arguments(rt: &HostRuntime) {
+pub(crate) fn mend_by_arguments(rt: &HostRuntime) -> Result<(), Fault> {
     if argument_count(rt) != 4 {
-        say(
-            rt,
-            b"usage: lepsaino mend FILE COPY; lepsaino --help says more\n",
-        );
-        return;
+        return Err(Fault::Usage("lepsaino mend FILE COPY"));
     }
-    let mut from = [0u8; 4096];
-    let n = argument(rt, 2, &mut from);
-    if n == 0 {
-        say(rt, b"FILE's name is empty, or longer than 4096 bytes\n");
-        return;
+    let mut from_space = [0u8; 4096];
+    let from = path_at(rt, 2, "FILE", &mut from_space)?;
+    let mut to_space = [0u8; 4096];
+    let to = path_at(rt, 3, "COPY", &mut to_space)?;
+    if let Err(failure) = mend_file(rt, from, to) {
+        failure.tell(rt);
     }
-    let mut to = [0u8; 4096];
-    let m = argument(rt, 3, &mut to);
-    if m == 0 {
-        say(rt, b"COPY's name is empty, or longer than 4096 bytes\n");
-        return;
-    }
-    mend_file(rt, &from[..n], &to[..m]);
+    Ok(())
 }

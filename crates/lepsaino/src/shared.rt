@@ -1,35 +1,73 @@
-// What the listing and mending share: an argument, a line that says what is wrong, a refusal as a line, and a file's bytes.
-ghost use Rattle.std.specs.Prelude.{◌≡◌, ◌≤◌, ◌↔◌, [], ◌∷◌, IfOk, IsTrue};
-ghost use Rattle.lepsaino.specs.Files.{InSpace, Within};
+// What the listing and mending share: what is wrong with the arguments, what failed with a file, an argument, and a file's bytes.
+ghost use Rattle.std.specs.Prelude.{◌≡◌, ◌≤◌, ◌↔◌, [], ◌∷◌, IsTrue};
 
-use console::{fail, open_file, print_refusal};
-use rows::Refusal;
+use console::{fail, open_file};
 use std::env::{Env, FillError};
-use std::io;
 use std::io::Read;
+use std::{fmt, io};
 
-// What a file's bytes came to.
+// What is wrong with the arguments.
 #[derive(Clone, Copy)]
-pub(crate) enum Took {
-    Bytes(usize),
-    Failed,
+pub(crate) enum Fault {
+    Usage(&'static str),
+    Path(&'static str),
+    Number {
+        called: &'static str,
+        least: u64,
+        most: u64,
+    },
+    TwoDashes,
 }
 
-// The bytes of an argument, and how many they are; 0 where there is none, or where it has more than there is room for.
-pub(crate) fn argument(rt: &HostRuntime, i: usize, space: &mut [u8]) -> usize
-    ensures { Within result space.new }
-{
-    match rt.arg(i, space) {
-        Ok(n) => n,
-        Err(_) => 0,
+impl fmt::Display for Fault {
+    fn fmt<W: fmt::Write>(&self, f: &mut fmt::Formatter<W>) -> fmt::Result {
+        match self {
+            Fault::Usage(forms) => write!(f, "usage: {forms}; lepsaino --help says more"),
+            Fault::Path(called) => write!(f, "{called}'s name is empty, or longer than 4096 bytes"),
+            Fault::Number {
+                called,
+                least,
+                most,
+            } => write!(f, "{called} is no decimal number from {least} to {most}"),
+            Fault::TwoDashes => write!(f, "FILE and NAMES cannot both be a dash"),
+        }
     }
+}
+
+// What failed with a file, and the system's reason.
+#[derive(Drop)]
+pub(crate) struct Failure<'a> {
+    pub what: &'a [u8],
+    pub error: io::Error,
+}
+
+impl Failure<'_> {
+    // One line on standard error.
+    pub(crate) fn tell(self, rt: &HostRuntime) {
+        fail(rt, self.what, self.error);
+    }
+}
+
+// The bytes of an argument; none where it is not there, or has more than there is room for.
+pub(crate) fn argument<'a>(rt: &HostRuntime, i: usize, space: &'a mut [u8]) -> Option<&'a [u8]> {
+    let length = rt.arg(i, space).ok()?;
+    Some(&space[..length])
+}
+
+// The path in an argument.
+pub(crate) fn path_at<'a>(
+    rt: &HostRuntime,
+    i: usize,
+    called: &'static str,
+    space: &'a mut [u8],
+) -> Result<&'a [u8], Fault> {
+    argument(rt, i, space)
+        .filter(|path| !path.is_empty())
+        .ok_or(Fault::Path(called))
 }
 
 fn is_given(rt: &HostRuntime, i: usize) -> bool {
-    match rt.arg(i, &mut []) {
-        Err(FillError::NotPresent) => false,
-        _ => true,
-    }
+    !matches!(rt.arg(i, &mut []), Err(FillError::NotPresent))
 }
 
 // How many arguments there are, the program's name among them; of more than seven it counts seven.
@@ -44,41 +82,17 @@ pub(crate) fn argument_count(rt: &HostRuntime) -> usize
     7
 }
 
-pub(crate) fn say(rt: &HostRuntime, line: &[u8]) {
-    let _ = rt.stderr().write_all(line);
-}
-
-pub(crate) fn print_refused(rt: &HostRuntime, refusal: Refusal) {
-    print_refusal(rt, refusal);
-    let _ = rt.write_all(b"\n");
-}
-
 // Reads until the space is full or the file ends. One byte more than a dump may have is room enough.
-fn read_all<R: Read>(file: &mut R, space: &mut [u8]) -> io::Result<usize>
-    ensures { IfOk result (λ n. Within n space.new) }
-{
+fn read_all<'a, R: Read>(file: &mut R, space: &'a mut [u8]) -> io::Result<&'a [u8]> {
     let mut done = 0;
+    // No range counts the turns: how far each goes the read before it says.
     while done < space.len() {
-        let more = file.read(&mut space[done..])?;
-        if more == 0 {
-            return Ok(done);
-        }
-        done += more;
-    }
-    Ok(done)
-}
-
-// Reads an open file. Where that fails, a line on standard error says of what and why.
-fn read_open<R: Read>(rt: &HostRuntime, file: &mut R, name: &[u8], space: &mut [u8]) -> Took
-    ensures { InSpace result space.new }
-{
-    match read_all(file, space) {
-        Ok(n) => Took::Bytes(n),
-        Err(error) => {
-            fail(rt, name, error);
-            Took::Failed
+        match file.read(&mut space[done..])? {
+            0 => break,
+            more => done += more,
         }
     }
+    Ok(&space[..done])
 }
 
 pub(crate) fn is_dash(path: &[u8]) -> bool
@@ -87,18 +101,24 @@ pub(crate) fn is_dash(path: &[u8]) -> bool
     path == b"-".as_slice()
 }
 
-// Reads the file at a path, or standard input where the path is a dash. By a path of its own, as /dev/stdin, it would be read from its start anew.
-pub(crate) fn read_file(rt: &HostRuntime, path: &[u8], space: &mut [u8]) -> Took
-    ensures { InSpace result space.new }
-{
+// Standard input has no path: by a path of its own, as /dev/stdin, it would be read from its start anew.
+fn read_path<'a>(rt: &HostRuntime, path: &[u8], space: &'a mut [u8]) -> io::Result<&'a [u8]> {
     if is_dash(path) {
-        return read_open(rt, &mut rt.stdin(), b"standard input", space);
+        return read_all(&mut rt.stdin(), space);
     }
-    match open_file(rt, path) {
-        Ok(mut file) => read_open(rt, &mut file, path, space),
-        Err(error) => {
-            fail(rt, path, error);
-            Took::Failed
-        }
-    }
+    read_all(&mut open_file(rt, path)?, space)
+}
+
+// The bytes of the file at a path, or of standard input where the path is a dash.
+pub(crate) fn read_file<'a, 'p>(
+    rt: &HostRuntime,
+    path: &'p [u8],
+    space: &'a mut [u8],
+) -> Result<&'a [u8], Failure<'p>> {
+    let what = if is_dash(path) {
+        b"standard input".as_slice()
+    } else {
+        path
+    };
+    read_path(rt, path, space).map_err(|error| Failure { what, error })
 }

@@ -1,24 +1,22 @@
 -- Answers as structs of numbers: what a C caller is handed for each answer of the library, by what it is told. In a refusal every other number is 0.
-use Rattle.std.specs.Prelude.{ℕ, cond, List, ◌≡◌, eqb, length}
+use Rattle.std.specs.Prelude.{ℕ, cond, List, ◌≡◌, eqb, length, Option, Result}
 use Rattle.events.specs.Events.{shown_told, slot_from}
-use Rattle.events.specs.Listing.{Gave, listed_by, listed_told}
-use Rattle.events.specs.declared.Listed.{Listed}
-use Rattle.events.specs.declared.Shown.{Shown}
+use Rattle.events.specs.Listing.{Gave}
+use Rattle.events.specs.declared.Event.{Event}
 use Rattle.mending.specs.Mending.{mended_told}
 use Rattle.mending.specs.declared.Mended.{Mended}
 use Rattle.naming.specs.declared.Subject.{Subject}
-use Rattle.naming.specs.declared.Subject.TheVariants.{Event, Thread}
-use Rattle.rows.specs.Rows.{Row, first_broken}
-use Rattle.rows.specs.Told.{Told, value_at}
+use Rattle.naming.specs.declared.Subject.TheVariants as subject
+use Rattle.rows.specs.Rows.{Row, first_broken, answer_by}
+use Rattle.rows.specs.Told.{Told, number_told, value_at}
+use Rattle.rows.specs.declared.Refusal.{Refusal}
 use Rattle.trace.specs.Check.{checked_told}
 use Rattle.trace.specs.Names.{found_told}
-use Rattle.trace.specs.declared.Checked.{Checked}
-use Rattle.trace.specs.declared.Found.{Found}
+use Rattle.trace.specs.declared.Name.{Name}
+use Rattle.trace.specs.declared.Sound.{Sound}
 use Rattle.words.specs.declared.Order.{Order}
 use Rattle.words.specs.declared.Order.TheVariants.{Big, Little}
-use Rattle.writing.specs.Writing.{outcome_told}
 use Rattle.writing.specs.declared.Format.{Format}
-use Rattle.writing.specs.declared.Outcome.{Outcome}
 use Rattle.lepsaino_c.specs.declared.answers.Answer.{Answer}
 use Rattle.lepsaino_c.specs.declared.answers.CheckAnswer.{CheckAnswer}
 use Rattle.lepsaino_c.specs.declared.answers.EventAnswer.{EventAnswer}
@@ -30,16 +28,13 @@ use Rattle.lepsaino_c.specs.declared.writers.FormatNumbers.{FormatNumbers}
 abbrev pub answer_of : Told → Answer
 answer_of t = record { refusal = t.number; place = t.place; value = value_at t 0 }
 
-unfoldable pub listed_answer : Listed → Answer
-listed_answer x = answer_of (listed_told x)
-
-unfoldable pub outcome_answer : Outcome → Answer
-outcome_answer x = answer_of (outcome_told x)
+unfoldable pub number_answer : Result ℕ Refusal → Answer
+number_answer x = answer_of (number_told x)
 
 -- a line or a listing: what the library's call leaves, and its answer as numbers
 pub record GaveNumbers (rows : List Row) (text old new : List ℕ) (numbers : Answer) : Type 0 where
-  pub gave : Gave rows text old new (listed_by (first_broken rows) (length text))
-  pub answered : numbers ≡ listed_answer (listed_by (first_broken rows) (length text))
+  pub gave : Gave rows text old new (answer_by (first_broken rows) (length text))
+  pub answered : numbers ≡ number_answer (answer_by (first_broken rows) (length text))
 
 -- checking: the byte order, the header's fields, the event count
 abbrev pub check_answer_of : Told → CheckAnswer
@@ -59,14 +54,14 @@ check_answer_of t = record {
   events = value_at t 10;
 }
 
-unfoldable pub check_answer : Checked → CheckAnswer
+unfoldable pub check_answer : Result Sound Refusal → CheckAnswer
 check_answer x = check_answer_of (checked_told x)
 
 -- a name: its kind, and where it lies in the dump or in the name file
 abbrev pub name_answer_of : Told → NameAnswer
 name_answer_of t = record { refusal = t.number; place = t.place; kind = value_at t 0; at = value_at t 1; length = value_at t 2 }
 
-unfoldable pub name_answer : Found → NameAnswer
+unfoldable pub name_answer : Result (Option Name) Refusal → NameAnswer
 name_answer x = name_answer_of (found_told x)
 
 -- an event: its slot's eight words, ticks, context and name, and its own name
@@ -85,7 +80,7 @@ event_answer_of t = record {
   event_length = value_at t 15;
 }
 
-unfoldable pub event_answer : Shown → EventAnswer
+unfoldable pub event_answer : Result Event Refusal → EventAnswer
 event_answer x = event_answer_of (shown_told x)
 
 -- mending: the copy's length, and the six counts
@@ -102,7 +97,7 @@ mend_answer_of t = record {
   moved = value_at t 6;
 }
 
-unfoldable pub mend_answer : Mended → MendAnswer
+unfoldable pub mend_answer : Result Mended Refusal → MendAnswer
 mend_answer x = mend_answer_of (mended_told x)
 
 -- formatting: 0 is little-endian, any other number big
@@ -120,4 +115,4 @@ format_given n = record {
 
 -- writing a record: 0 is an event's, any other number a thread's
 unfoldable pub subject_given : ℕ → Subject
-subject_given n = cond (eqb n 0) Event Thread
+subject_given n = cond (eqb n 0) subject.Event subject.Thread

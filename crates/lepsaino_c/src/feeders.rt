@@ -3,7 +3,7 @@ ghost use Rattle.std.specs.Prelude.{◌≡◌};
 ghost use Rattle.pieces.specs.Pieces.{begun, fed, finished};
 ghost use Rattle.lepsaino_c.specs.Answers.{check_answer};
 
-use crate::answers::{CheckAnswer, of_checked};
+use crate::answers::CheckAnswer;
 use pieces::Pieces;
 
 // The state before any byte.
@@ -24,5 +24,5 @@ pub fn lepsaino_feed(state: Pieces, piece: &[u8]) -> Pieces
 pub fn lepsaino_finish(state: Pieces) -> CheckAnswer
     ensures { result ≡ check_answer (finished state) }
 {
-    of_checked(state.finish())
+    CheckAnswer::from(state.finish())
 }

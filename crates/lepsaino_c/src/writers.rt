@@ -5,9 +5,9 @@ ghost use Rattle.rows.specs.Lent.{left_in};
 ghost use Rattle.rows.specs.Rows.{first_broken};
 ghost use Rattle.trace.specs.Layout.{header_of};
 ghost use Rattle.writing.specs.Writing.{filing, formatting, left, recording, registering, removing, said};
-ghost use Rattle.lepsaino_c.specs.Answers.{format_given, mend_answer, order_given, outcome_answer, subject_given};
+ghost use Rattle.lepsaino_c.specs.Answers.{format_given, mend_answer, order_given, number_answer, subject_given};
 
-use crate::answers::{Answer, MendAnswer, of_mended, of_outcome};
+use crate::answers::{Answer, MendAnswer};
 use naming::Subject;
 use trace::Slot;
 use words::Order;
@@ -24,6 +24,7 @@ pub struct FormatNumbers {
     pub entries: usize,
 }
 
+#[tactic(auto, unfolding(crate::specs::Answers::order_given))]
 fn order_given(big: u32) -> Order
     ensures { result ≡ order_given big }
 {
@@ -33,6 +34,7 @@ fn order_given(big: u32) -> Order
     Order::Big
 }
 
+#[tactic(auto, unfolding(crate::specs::Answers::format_given))]
 fn format_given(numbers: FormatNumbers) -> Format
     ensures { result ≡ format_given numbers }
 {
@@ -47,39 +49,40 @@ fn format_given(numbers: FormatNumbers) -> Format
 
 // Formats a buffer.
 pub fn lepsaino_format(buffer: &mut [u8], numbers: FormatNumbers) -> Answer
-    ensures { (result ≡ outcome_answer (said (formatting (format_given numbers) buffer.old))) × (buffer.new ≡ left (formatting (format_given numbers) buffer.old) buffer.old) }
+    ensures { (result ≡ number_answer (said (formatting (format_given numbers) buffer.old))) × (buffer.new ≡ left (formatting (format_given numbers) buffer.old) buffer.old) }
 {
-    of_outcome(formatter::format(buffer, format_given(numbers)))
+    Answer::from(formatter::format(buffer, format_given(numbers)))
 }
 
 // Records an event.
 pub fn lepsaino_record(buffer: &mut [u8], slot: Slot) -> Answer
-    ensures { (result ≡ outcome_answer (said (recording slot buffer.old))) × (buffer.new ≡ left (recording slot buffer.old) buffer.old) }
+    ensures { (result ≡ number_answer (said (recording slot buffer.old))) × (buffer.new ≡ left (recording slot buffer.old) buffer.old) }
 {
-    of_outcome(recorder::record(buffer, slot))
+    Answer::from(recorder::record(buffer, slot))
 }
 
 // Registers an object under a name.
 pub fn lepsaino_register(buffer: &mut [u8], object: Object, name: &[u8]) -> Answer
-    ensures { (result ≡ outcome_answer (said (registering object name.now buffer.old))) × (buffer.new ≡ left (registering object name.now buffer.old) buffer.old) }
+    ensures { (result ≡ number_answer (said (registering object name.now buffer.old))) × (buffer.new ≡ left (registering object name.now buffer.old) buffer.old) }
 {
-    of_outcome(registrar::register(buffer, object, name))
+    Answer::from(registrar::register(buffer, object, name))
 }
 
 // Removes the object with a pointer.
 pub fn lepsaino_remove(buffer: &mut [u8], pointer: u32) -> Answer
-    ensures { (result ≡ outcome_answer (said (removing pointer buffer.old))) × (buffer.new ≡ left (removing pointer buffer.old) buffer.old) }
+    ensures { (result ≡ number_answer (said (removing pointer buffer.old))) × (buffer.new ≡ left (removing pointer buffer.old) buffer.old) }
 {
-    of_outcome(registrar::remove(buffer, pointer))
+    Answer::from(registrar::remove(buffer, pointer))
 }
 
 // Mends a dump into a second buffer.
 pub fn lepsaino_mend(dump: &[u8], copy: &mut [u8]) -> MendAnswer
     ensures { (result ≡ mend_answer (mend_of dump.now (length copy.old))) × (copy.new ≡ left_in copy.old (first_broken (mending_rows dump.now (header_of dump.now) (length copy.old))) (copy_of dump.now (header_of dump.now))) }
 {
-    of_mended(mender::mend(dump, copy))
+    MendAnswer::from(mender::mend(dump, copy))
 }
 
+#[tactic(auto, unfolding(crate::specs::Answers::subject_given))]
 fn subject_given(thread: u32) -> Subject
     ensures { result ≡ subject_given thread }
 {
@@ -97,7 +100,7 @@ pub fn lepsaino_write_name(
     number: u32,
     name: &[u8],
 ) -> Answer
-    ensures { (result ≡ outcome_answer (said (filing (subject_given thread) number name.now offset names.old))) × (names.new ≡ left (filing (subject_given thread) number name.now offset names.old) names.old) }
+    ensures { (result ≡ number_answer (said (filing (subject_given thread) number name.now offset names.old))) × (names.new ≡ left (filing (subject_given thread) number name.now offset names.old) names.old) }
 {
-    of_outcome(filer::write_name(names, offset, subject_given(thread), number, name))
+    Answer::from(filer::write_name(names, offset, subject_given(thread), number, name))
 }

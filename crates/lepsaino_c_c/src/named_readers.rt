@@ -1,5 +1,4 @@
 // The calls that read a dump with a name file. The reading comes before the names: so it is never split between registers and the stack.
-ghost use Rattle.std.proofs.Math.Option.{some};
 ghost use Rattle.std.specs.Prelude.{◌≡◌, length};
 ghost use Rattle.events.specs.Events.{event_of};
 ghost use Rattle.events.specs.Listing.{line_at, line_rows, listing_rows, listing_text};
@@ -17,7 +16,7 @@ pub extern "C" fn lepsaino_event_with_names(
     names: &[u8],
     position: usize,
 ) -> EventAnswer
-    ensures { result ≡ event_answer (event_of (some names.now) dump.now position) }
+    ensures { result ≡ event_answer (event_of (Some names.now) dump.now position) }
 {
     lepsaino_c::lepsaino_event_with_names(dump, names, position)
 }
@@ -29,7 +28,7 @@ pub extern "C" fn lepsaino_find_name_with_names(
     names: &[u8],
     pointer: u32,
 ) -> NameAnswer
-    ensures { result ≡ name_answer (find_name_with (some names.now) dump.now pointer) }
+    ensures { result ≡ name_answer (find_name_with (Some names.now) dump.now pointer) }
 {
     lepsaino_c::lepsaino_find_name_with_names(dump, names, pointer)
 }
@@ -43,7 +42,7 @@ pub extern "C" fn lepsaino_line_with_names<'a>(
     names: &'a [u8],
     out: &mut [u8],
 ) -> Answer
-    ensures { GaveNumbers (line_rows (some names.now) dump.now (header_of dump.now) reading position (length out.old)) (line_at (some names.now) dump.now (header_of dump.now) reading position) out.old out.new result }
+    ensures { GaveNumbers (line_rows (Some names.now) dump.now (header_of dump.now) reading position (length out.old)) (line_at (Some names.now) dump.now (header_of dump.now) reading position) out.old out.new result }
 {
     lepsaino_c::lepsaino_line_with_names(dump, reading, position, names, out)
 }
@@ -56,7 +55,7 @@ pub extern "C" fn lepsaino_listing_with_names<'a>(
     names: &'a [u8],
     out: &mut [u8],
 ) -> Answer
-    ensures { GaveNumbers (listing_rows (some names.now) dump.now (header_of dump.now) reading (length out.old)) (listing_text (some names.now) dump.now (header_of dump.now) reading) out.old out.new result }
+    ensures { GaveNumbers (listing_rows (Some names.now) dump.now (header_of dump.now) reading (length out.old)) (listing_text (Some names.now) dump.now (header_of dump.now) reading) out.old out.new result }
 {
     lepsaino_c::lepsaino_listing_with_names(dump, reading, names, out)
 }

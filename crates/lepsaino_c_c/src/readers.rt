@@ -1,5 +1,4 @@
 // The calls that read a dump.
-ghost use Rattle.std.proofs.Math.Option.{none};
 ghost use Rattle.std.specs.Prelude.{◌≡◌, length};
 ghost use Rattle.events.specs.Events.{event_of};
 ghost use Rattle.events.specs.Listing.{line_at, line_rows, listing_rows, listing_text};
@@ -24,7 +23,7 @@ pub extern "C" fn lepsaino_check(dump: &[u8]) -> CheckAnswer
 // One event by position.
 #[unsafe(no_mangle)]
 pub extern "C" fn lepsaino_event(dump: &[u8], position: usize) -> EventAnswer
-    ensures { result ≡ event_answer (event_of none dump.now position) }
+    ensures { result ≡ event_answer (event_of None dump.now position) }
 {
     lepsaino_c::lepsaino_event(dump, position)
 }
@@ -45,7 +44,7 @@ pub extern "C" fn lepsaino_line(
     position: usize,
     out: &mut [u8],
 ) -> Answer
-    ensures { GaveNumbers (line_rows none dump.now (header_of dump.now) reading position (length out.old)) (line_at none dump.now (header_of dump.now) reading position) out.old out.new result }
+    ensures { GaveNumbers (line_rows None dump.now (header_of dump.now) reading position (length out.old)) (line_at None dump.now (header_of dump.now) reading position) out.old out.new result }
 {
     lepsaino_c::lepsaino_line(dump, reading, position, out)
 }
@@ -53,7 +52,7 @@ pub extern "C" fn lepsaino_line(
 // The whole listing.
 #[unsafe(no_mangle)]
 pub extern "C" fn lepsaino_listing(dump: &[u8], reading: Reading, out: &mut [u8]) -> Answer
-    ensures { GaveNumbers (listing_rows none dump.now (header_of dump.now) reading (length out.old)) (listing_text none dump.now (header_of dump.now) reading) out.old out.new result }
+    ensures { GaveNumbers (listing_rows None dump.now (header_of dump.now) reading (length out.old)) (listing_text None dump.now (header_of dump.now) reading) out.old out.new result }
 {
     lepsaino_c::lepsaino_listing(dump, reading, out)
 }

@@ -5,7 +5,7 @@ ghost use Rattle.rows.specs.Lent.{left_in};
 ghost use Rattle.rows.specs.Rows.{first_broken};
 ghost use Rattle.trace.specs.Layout.{header_of};
 ghost use Rattle.writing.specs.Writing.{filing, formatting, left, recording, registering, removing, said};
-ghost use Rattle.lepsaino_c.specs.Answers.{format_given, mend_answer, outcome_answer, subject_given};
+ghost use Rattle.lepsaino_c.specs.Answers.{format_given, mend_answer, number_answer, subject_given};
 
 use lepsaino_c::{Answer, FormatNumbers, MendAnswer};
 use trace::Slot;
@@ -14,7 +14,7 @@ use writing::Object;
 // Formats a buffer.
 #[unsafe(no_mangle)]
 pub extern "C" fn lepsaino_format(buffer: &mut [u8], numbers: FormatNumbers) -> Answer
-    ensures { (result ≡ outcome_answer (said (formatting (format_given numbers) buffer.old))) × (buffer.new ≡ left (formatting (format_given numbers) buffer.old) buffer.old) }
+    ensures { (result ≡ number_answer (said (formatting (format_given numbers) buffer.old))) × (buffer.new ≡ left (formatting (format_given numbers) buffer.old) buffer.old) }
 {
     lepsaino_c::lepsaino_format(buffer, numbers)
 }
@@ -22,7 +22,7 @@ pub extern "C" fn lepsaino_format(buffer: &mut [u8], numbers: FormatNumbers) -> 
 // Records an event.
 #[unsafe(no_mangle)]
 pub extern "C" fn lepsaino_record(buffer: &mut [u8], slot: Slot) -> Answer
-    ensures { (result ≡ outcome_answer (said (recording slot buffer.old))) × (buffer.new ≡ left (recording slot buffer.old) buffer.old) }
+    ensures { (result ≡ number_answer (said (recording slot buffer.old))) × (buffer.new ≡ left (recording slot buffer.old) buffer.old) }
 {
     lepsaino_c::lepsaino_record(buffer, slot)
 }
@@ -30,7 +30,7 @@ pub extern "C" fn lepsaino_record(buffer: &mut [u8], slot: Slot) -> Answer
 // Registers an object under a name.
 #[unsafe(no_mangle)]
 pub extern "C" fn lepsaino_register(buffer: &mut [u8], object: Object, name: &[u8]) -> Answer
-    ensures { (result ≡ outcome_answer (said (registering object name.now buffer.old))) × (buffer.new ≡ left (registering object name.now buffer.old) buffer.old) }
+    ensures { (result ≡ number_answer (said (registering object name.now buffer.old))) × (buffer.new ≡ left (registering object name.now buffer.old) buffer.old) }
 {
     lepsaino_c::lepsaino_register(buffer, object, name)
 }
@@ -38,7 +38,7 @@ pub extern "C" fn lepsaino_register(buffer: &mut [u8], object: Object, name: &[u
 // Removes the object with a pointer.
 #[unsafe(no_mangle)]
 pub extern "C" fn lepsaino_remove(buffer: &mut [u8], pointer: u32) -> Answer
-    ensures { (result ≡ outcome_answer (said (removing pointer buffer.old))) × (buffer.new ≡ left (removing pointer buffer.old) buffer.old) }
+    ensures { (result ≡ number_answer (said (removing pointer buffer.old))) × (buffer.new ≡ left (removing pointer buffer.old) buffer.old) }
 {
     lepsaino_c::lepsaino_remove(buffer, pointer)
 }
@@ -60,7 +60,7 @@ pub extern "C" fn lepsaino_write_name(
     number: u32,
     name: &[u8],
 ) -> Answer
-    ensures { (result ≡ outcome_answer (said (filing (subject_given thread) number name.now offset names.old))) × (names.new ≡ left (filing (subject_given thread) number name.now offset names.old) names.old) }
+    ensures { (result ≡ number_answer (said (filing (subject_given thread) number name.now offset names.old))) × (names.new ≡ left (filing (subject_given thread) number name.now offset names.old) names.old) }
 {
     lepsaino_c::lepsaino_write_name(names, offset, thread, number, name)
 }

@@ -13,14 +13,14 @@ module _ (has : ℕ → ℕ → Bool) (count : ℕ) where
   pub link_start : (first next : ℕ → ℕ) → count ≤ 65535 → ((place : ℕ) → place < 4096 → first place ≡ 65535) → Linked has count count first next
   link_start first next few nowhere = record {
     firsts = λ place below.
-        rw (nowhere place below) record { on = few; fits = omega arith; skips = λ k from to inside. absurd (omega arith); lands = λ inside. absurd (omega arith); past = λ beyond. refl };
+        rw (nowhere place below) record { few = few; on = few; fits = omega arith; skips = λ k from to inside. absurd (omega arith); lands = λ inside. absurd (omega arith); past = λ beyond. refl };
     nexts = λ i place from inside there. absurd (omega arith);
   }
 
   module _ (i : ℕ) {first next : ℕ → ℕ} (inside : i < count) (linked : Linked has count (suc i) first next) where
     -- a link over a thing that has not the place leads from there as well
     over : (place : ℕ) {to : ℕ} → has place i ≡ false → Leads has count place (suc i) to → Leads has count place i to
-    over place {to} without leads = record { on = omega (arith, leads.on); fits = leads.fits; skips = λ k from. by k from (ℕ_discrete k i); lands = leads.lands; past = leads.past }
+    over place {to} without leads = record { few = leads.few; on = omega (arith, leads.on); fits = leads.fits; skips = λ k from. by k from (ℕ_discrete k i); lands = leads.lands; past = leads.past }
       where
         by : (k : ℕ) → i ≤ k → Dec (k ≡ i) → k < to → k < count → has place k ≡ false
         by k from (yes here) = λ below within. rw here without
@@ -50,7 +50,7 @@ module _ (has : ℕ → ℕ → Bool) (count : ℕ) where
           firsts : (place : ℕ) → place < 4096 → Dec (place ≡ own) → Leads has count place i (first' place)
           firsts place below (yes same) =
               rw (same, leads-here)
-              record { on = omega arith; fits = omega arith; skips = λ k from to within. absurd (omega arith); lands = λ within. is own ∙ eq-eqb own own refl; past = λ beyond. absurd (omega arith) }
+              record { few = (linked.firsts place below).few; on = omega arith; fits = omega arith; skips = λ k from to within. absurd (omega arith); lands = λ within. is own ∙ eq-eqb own own refl; past = λ beyond. absurd (omega arith) }
           firsts place below (no other) = rw (other-firsts place below other) (over place (is place ∙ ne_eqb own place (omega arith)) (linked.firsts place below))
 
           nexts : (k place : ℕ) → i ≤ k → Dec (k ≡ i) → k < count → has place k ≡ true → Leads has count place (suc k) (next' k)

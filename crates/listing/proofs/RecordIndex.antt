@@ -1,12 +1,12 @@
 -- The index of a name file's records: a record more is linked by two stores where it names something, and the links lead where a search of the file ends.
+use Rattle.std.specs.Prelude.{option_map}
 use Prim.Native.Nat.{ℕ, suc, ◌+◌, ◌≤◌, ◌<◌}
 use mathlib.Core.Bool.{Bool, true, false, ◌&&◌, ◌||◌, and-false, and-true, true≢false}
 use mathlib.Core.List.{List}
-use mathlib.Core.Logic.{⊎_elim}
 use mathlib.Core.Path.{◌≡◌, refl, sym, ◌∙◌}
 use native.Mathlib.Decide.{ℕ_discrete}
 use native.Mathlib.Omega.{arith}
-use borrow.Author.Tests.{eq-eqb, eqb-true, le-ltb, lt-ltb, ne_eqb}
+use borrow.Author.Tests.{eq-eqb, eqb-true, ne_eqb}
 use lib.Dec.{eqb}
 use lib.ListN.{get_or, get_or-replicate, length, length-replicate, length-set, replicate, set}
 use lib.Seq.{get_or-set_other, get_or-set_same}
@@ -15,10 +15,9 @@ use Rattle.naming.specs.Records.{is_sought_at, kind_at, kind_of, name_at, number
 use Rattle.naming.specs.declared.Sought.TheVariants.{Naming}
 use Rattle.naming.specs.declared.Subject.{Subject}
 use Rattle.naming.specs.declared.Subject.TheVariants.{Event, Thread}
-use Rattle.trace.specs.declared.Name.TheVariants.{Nameless}
-use Rattle.listing.proofs.Follows.{Seeks, place_tells}
+use Rattle.listing.proofs.Follows.{is_found, lowest_map, place_tells}
 use Rattle.listing.proofs.Links.{link_none, link_one, link_start}
-use Rattle.listing.specs.Index.{Ends, place_of}
+use Rattle.listing.specs.Index.{lowest_in, place_of}
 use Rattle.listing.specs.RecordIndex.{Records, Starts, has_record, is_thread_subject}
 
 module _ (f : List ℕ) where
@@ -102,23 +101,15 @@ module _ (f : List ℕ) where
       by false true = sym (place_tells true true number)
       by false false = refl
 
-  pub seeks_record : (subject : Subject) (number : ℕ)
-      → Seeks (has_record f) (place_of (is_thread_subject subject) number) (λ k. number_at f (record_at f k)) number (λ k. is_sought_at (Naming subject number) f (record_at f k))
-  unfolding is_sought_at
-  seeks_record subject number = record {
-    alike = λ k same. rw (same, eq-eqb number number refl, and-true) (subject_tells subject (kind_at f (record_at f k)) number);
-    unlike = λ k other. rw (ne_eqb (number_at f (record_at f k)) number other, and-false);
-  }
-
-  -- where a way ends: the name there, or none
-  module _ (subject : Subject) (number to : ℕ) (ends : Ends (λ k. is_sought_at (Naming subject number) f (record_at f k)) (record_count f) to) where
-    pub record_inside : (to ≡ 65535 → ⊥) → to < record_count f
-    record_inside other = ⊎_elim (λ there. there.1) (λ none. absurd (other none.0)) ends
-
-    pub record_named : (to ≡ 65535 → ⊥) → record_name subject f number ≡ name_at f (record_at f to)
-    unfolding record_name
-    record_named other = ⊎_elim (λ there. rw (← there.0, lt-ltb to (record_count f) there.1)) (λ none. absurd (other none.0)) ends
-
-    pub record_nameless : record_count f ≤ 16384 → to ≡ 65535 → record_name subject f number ≡ Nameless
-    unfolding record_name
-    record_nameless few nowhere = ⊎_elim (λ there. absurd (omega (arith, there.1))) (λ none. rw (← none.1, le-ltb (record_count f) (record_count f) (omega arith))) ends
+  -- the name of a record that is found by its place and its number
+  pub record_found : (subject : Subject) (number : ℕ)
+      → record_name subject f number ≡ option_map (λ i. name_at f (record_at f i)) (lowest_in (is_found (has_record f) (λ k. number_at f (record_at f k)) (place_of (is_thread_subject subject) number) number) (record_count f))
+  unfolding is_sought_at record_name
+  record_found subject number =
+      lowest_map (λ i. name_at f (record_at f i)) (is_found (has_record f) (λ k. number_at f (record_at f k)) (place_of (is_thread_subject subject) number) number) (λ k. is_sought_at (Naming subject number) f (record_at f k))
+      (record_count f) (λ k below. by k (ℕ_discrete (number_at f (record_at f k)) number))
+    where
+      by : (k : ℕ) → Dec (number_at f (record_at f k) ≡ number)
+          → is_found (has_record f) (λ k. number_at f (record_at f k)) (place_of (is_thread_subject subject) number) number k ≡ is_sought_at (Naming subject number) f (record_at f k)
+      by k (yes same) = rw (same, eq-eqb number number refl, and-true, and-true) (sym (subject_tells subject (kind_at f (record_at f k)) number))
+      by k (no other) = rw (ne_eqb (number_at f (record_at f k)) number other, and-false, and-false)

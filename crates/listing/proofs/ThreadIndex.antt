@@ -1,11 +1,12 @@
 -- The index of threads: an entry more is linked by two stores where it is a thread's, and the links lead where a search of the registry ends.
-use Prim.Native.Nat.{ℕ, suc, ◌+◌, ◌^◌, ◌≤◌, ◌<◌}
+use Rattle.std.specs.Prelude.{option_map}
+use Prim.Native.Nat.{ℕ, suc, ◌+◌, ◌≤◌, ◌<◌}
 use mathlib.Core.Bool.{Bool, true, false, cond, and-false, and-true}
 use mathlib.Core.List.{List}
-use mathlib.Core.Logic.{⊎_elim}
 use mathlib.Core.Path.{◌≡◌, refl, ◌∙◌}
 use native.Mathlib.Omega.{arith}
-use borrow.Author.Tests.{eq-eqb, le-ltb, lt-ltb, ne_eqb}
+use native.Mathlib.Decide.{ℕ_discrete}
+use borrow.Author.Tests.{eq-eqb, ne_eqb}
 use lib.Dec.{eqb}
 use lib.ListN.{get_or, get_or-replicate, length-replicate, length-set, replicate, set}
 use lib.Seq.{get_or-set_other, get_or-set_same}
@@ -13,13 +14,12 @@ use Rattle.trace.specs.Layout.{entry_at, entry_count}
 use Rattle.trace.specs.Names.{entry_name, name_if_entry, thread_name}
 use Rattle.trace.specs.Registry.{is_in_use, is_of_kind, is_thread_at, is_wanted, is_wanted_at, kind_at, pointer_at}
 use Rattle.trace.specs.declared.Header.{Header}
-use Rattle.trace.specs.declared.Name.TheVariants.{Nameless}
 use Rattle.trace.specs.declared.ThreadKind.{ThreadKind}
 use Rattle.trace.specs.declared.ThreadKind.TheVariants.{Gone, Live}
 use Rattle.trace.specs.declared.Wanted.TheVariants.{Thread}
-use Rattle.listing.proofs.Follows.{Seeks, place_tells}
+use Rattle.listing.proofs.Follows.{is_found, lowest_map, place_tells}
 use Rattle.listing.proofs.Links.{link_none, link_one, link_start}
-use Rattle.listing.specs.Index.{Ends, place_of}
+use Rattle.listing.specs.Index.{lowest_in, place_of}
 use Rattle.listing.specs.ThreadIndex.{Threads, has_thread, is_gone_kind}
 
 module _ (s : List ℕ) (h : Header) where
@@ -63,24 +63,15 @@ module _ (s : List ℕ) (h : Header) where
   kind_tells Gone true pointer = place_tells false true pointer
   kind_tells Gone false pointer = place_tells true true pointer
 
-  pub seeks_thread : (kind : ThreadKind) (pointer : ℕ)
-      → Seeks (has_thread s h) (place_of (is_gone_kind kind) pointer) (λ k. pointer_at h.order s (entry_at h k)) pointer (is_wanted (Thread kind pointer) s h)
-  unfolding is_wanted_at
-  seeks_thread kind pointer = record {
-    alike = λ k same. rw (same, eq-eqb pointer pointer refl, kind_tells kind (is_in_use s (entry_at h k)) pointer, and-true);
-    unlike = λ k other. rw (ne_eqb (pointer_at h.order s (entry_at h k)) pointer other, and-false);
-  }
-
-  -- where a way ends: the name there, or none; and that the entry is one of 32 bits
-  module _ (kind : ThreadKind) (pointer to : ℕ) (ends : Ends (is_wanted (Thread kind pointer) s h) (entry_count h) to) where
-    pub thread_named : (to ≡ 65535 → ⊥) → thread_name kind s h pointer ≡ entry_name kind s h to
-    unfolding name_if_entry thread_name
-    thread_named other = ⊎_elim (λ there. rw (← there.0, lt-ltb to (entry_count h) there.1)) (λ none. absurd (other none.0)) ends
-
-    module _ (few : entry_count h ≤ 3274) where
-      pub thread_nameless : to ≡ 65535 → thread_name kind s h pointer ≡ Nameless
-      unfolding name_if_entry thread_name
-      thread_nameless nowhere = ⊎_elim (λ there. absurd (omega (arith, there.1))) (λ none. rw (← none.1, le-ltb (entry_count h) (entry_count h) (omega arith))) ends
-
-      pub thread_small : to < 2 ^ 32
-      thread_small = ⊎_elim (λ there. omega (arith, there.1)) (λ none. omega (arith, none.0)) ends
+  -- the name of a thread that is found by its place and its pointer
+  pub thread_found : (kind : ThreadKind) (pointer : ℕ)
+      → thread_name kind s h pointer ≡ option_map (entry_name kind s h) (lowest_in (is_found (has_thread s h) (λ k. pointer_at h.order s (entry_at h k)) (place_of (is_gone_kind kind) pointer) pointer) (entry_count h))
+  unfolding is_wanted_at name_if_entry thread_name
+  thread_found kind pointer =
+      lowest_map (entry_name kind s h) (is_found (has_thread s h) (λ k. pointer_at h.order s (entry_at h k)) (place_of (is_gone_kind kind) pointer) pointer) (is_wanted (Thread kind pointer) s h) (entry_count h)
+      (λ k below. by k (ℕ_discrete (pointer_at h.order s (entry_at h k)) pointer))
+    where
+      by : (k : ℕ) → Dec (pointer_at h.order s (entry_at h k) ≡ pointer)
+          → is_found (has_thread s h) (λ k. pointer_at h.order s (entry_at h k)) (place_of (is_gone_kind kind) pointer) pointer k ≡ is_wanted (Thread kind pointer) s h k
+      by k (yes same) = rw (same, eq-eqb pointer pointer refl, kind_tells kind (is_in_use s (entry_at h k)) pointer, and-true)
+      by k (no other) = rw (ne_eqb (pointer_at h.order s (entry_at h k)) pointer other, and-false, and-false)

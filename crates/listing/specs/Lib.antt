@@ -1,4 +1,5 @@
 pub mod Accepted
 pub mod Index
 pub mod RecordIndex
+pub mod Sources
 pub mod ThreadIndex

@@ -1,6 +1,5 @@
 -- The index of a name file's records by their numbers: those of events, and those of threads.
-use Rattle.std.specs.Prelude.{ℕ, ◌+◌, ◌≤◌, ◌<◌, Bool, true, false, ◌&&◌, ◌||◌, List, ◌≡◌, eqb, get_or, length, replicate}
-use Rattle.std.proofs.Math.Option.{Option, none, some}
+use Rattle.std.specs.Prelude.{ℕ, ◌+◌, ◌≤◌, ◌<◌, Bool, true, false, ◌&&◌, ◌||◌, List, ◌≡◌, eqb, get_or, length, Option}
 use Rattle.naming.specs.Records.{kind_at, name_in, number_at, record_at, record_count}
 use Rattle.naming.specs.Finding.{name_with}
 use Rattle.naming.specs.declared.Subject.{Subject}
@@ -29,16 +28,6 @@ pub record Starts (f : List ℕ) (count : ℕ) (records : List ℕ) : Type 0 whe
 pub record Records (f : List ℕ) (from : ℕ) (records : List ℕ) : Type 0 where
   pub found : Starts f (record_count f) records
   pub linked : Linked (has_record f) (record_count f) from (λ place. get_or records (32768 + place) 0) (λ i. get_or records (16384 + i) 0)
-
--- the room for the index before it is made, where a file is given
-abbrev pub Fresh : Option (List ℕ) → List ℕ → Type 0
-Fresh none records = Unit {0}
-Fresh (some f) records = records ≡ replicate 36864 65535
-
--- of a file, where one is given
-abbrev pub Indexed : Option (List ℕ) → List ℕ → Type 0
-Indexed none records = Unit {0}
-Indexed (some f) records = Records f 0 records
 
 -- no line has names of more bytes than these: an event's own, and its thread's
 abbrev pub AtMost : Option (List ℕ) → Header → ℕ → Type 0

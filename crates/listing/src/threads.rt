@@ -1,13 +1,11 @@
 // The index of the registry's threads by their pointers, filled in one pass: a link for each entry, and behind them the first link of each place. Live threads and those that are gone have places of their own.
 ghost use Rattle.std.specs.Prelude.{◌≡◌, ◌<◌, ◌≤◌, suc, replicate};
-ghost use Rattle.trace.specs.Layout.{entry_count};
-ghost use Rattle.trace.specs.Names.{name_of};
-ghost use Rattle.trace.specs.Registry.{is_wanted};
-ghost use Rattle.trace.specs.declared.Wanted.TheVariants.{Thread};
-ghost use Rattle.listing.specs.Index.{Ends};
-ghost use Rattle.listing.specs.ThreadIndex.{Threads, is_gone_kind};
+ghost use Rattle.trace.specs.Layout.{entry_at, entry_count};
+ghost use Rattle.trace.specs.Names.{name_of, thread_name};
+ghost use Rattle.trace.specs.Registry.{pointer_at};
+ghost use Rattle.listing.specs.ThreadIndex.{Threads, has_thread, is_gone_kind};
 
-use crate::index::{NOWHERE, place_of};
+use crate::index::{ByNumber, find, place_of};
 use dump::{is_thread, kind_at};
 use finder::entry_name;
 use header::geometry_of;
@@ -19,15 +17,68 @@ const FIRSTS: usize = 3274;
 // A link for each entry, and the first link of each of twice 2,048 places.
 pub(crate) const LINKS: usize = 7370;
 
+// The threads of a dump that is sound, by its links.
+#[derive(Clone, Copy)]
+pub(crate) struct ThreadIndex<'a> {
+    pub(crate) dump: &'a [u8],
+    pub(crate) header: Header,
+    pub(crate) links: &'a [u16; LINKS],
+    pub(crate) ghost linked: { Threads dump.now header 0 links.now },
+}
+
+impl ByNumber for ThreadIndex<'_> {
+    ghost count = { λ index. entry_count index.header };
+
+    ghost has = { λ index. has_thread index.dump.now index.header };
+
+    ghost number_at = { λ index i. pointer_at index.header.order index.dump.now (entry_at index.header i) };
+
+    fn first(&self, place: usize) -> u16 {
+        self.links[FIRSTS + place]
+    }
+
+    fn number(&self, i: usize) -> u32 {
+        let header = self.header;
+        let size = NAME_OFFSET + header.name_size as usize;
+        words::word(self.dump, HEADER_SIZE + i * size + 4, header.order)
+    }
+
+    fn next(&self, i: usize) -> u16 {
+        self.links[i]
+    }
+}
+
+impl ThreadIndex<'_> {
+    // The name for a pointer: a live thread's, or else one's that is gone.
+    #[tactic(auto, unfolding(trace::specs::Names::name_of))]
+    pub(crate) fn name_of(&self, pointer: u32) -> Option<Name>
+        ensures { result ≡ name_of self.now.dump.now self.now.header pointer }
+    {
+        // The closure of an `or_else` would search, and was not proved.
+        match self.thread_name(ThreadKind::Live, pointer) {
+            Some(name) => Some(name),
+            None => self.thread_name(ThreadKind::Gone, pointer),
+        }
+    }
+
+    // The name of the lowest thread of a kind with a pointer.
+    #[inline(always)]
+    #[tactic(auto, using(crate::proofs::ThreadIndex::thread_found, crate::proofs::Follows::lowest_in_below))]
+    fn thread_name(&self, kind: ThreadKind, pointer: u32) -> Option<Name>
+        ensures { result ≡ thread_name kind self.now.dump.now self.now.header pointer }
+    {
+        let entry = find(self, is_gone_kind(kind), pointer)?;
+        Some(entry_name(self.dump, self.header, kind, entry as u32))
+    }
+}
+
 // Links the threads, from the last entry to the first, so that each link leads to the lowest behind it.
 pub(crate) fn link_all(dump: &[u8], header: Header, links: &mut [u16; LINKS])
     requires { (entry_count header ≤ 3274) × (links.old ≡ replicate 7370 65535) }
     ensures { Threads dump.now header 0 links.new }
 {
-    let mut i = geometry_of(header).entries;
-    while i > 0 {
-        i -= 1;
-        link(dump, header, i, links);
+    for entry in (0..geometry_of(header).entries).rev() {
+        link(dump, header, entry, links);
     }
 }
 
@@ -46,53 +97,9 @@ fn link(dump: &[u8], header: Header, entry: usize, links: &mut [u16; LINKS])
     }
 }
 
+#[tactic(auto, unfolding(crate::specs::ThreadIndex::is_gone_kind))]
 fn is_gone_kind(kind: ThreadKind) -> bool
     ensures { result ≡ is_gone_kind kind }
 {
-    match kind {
-        ThreadKind::Live => false,
-        ThreadKind::Gone => true,
-    }
-}
-
-// The lowest thread of a kind with a pointer, or nowhere where there is none.
-fn linked_entry(
-    dump: &[u8],
-    header: Header,
-    kind: ThreadKind,
-    pointer: u32,
-    links: &[u16; LINKS],
-) -> usize
-    requires { Threads dump.now header 0 links.now }
-    ensures { Ends (is_wanted (Thread kind pointer) dump.now header) (entry_count header) result }
-{
-    let size = NAME_OFFSET + header.name_size as usize;
-    let place = place_of(is_gone_kind(kind), pointer);
-    let mut i = links[FIRSTS + place] as usize;
-    loop {
-        if i == NOWHERE as usize {
-            break i;
-        }
-        let order = header.order;
-        if words::word(dump, HEADER_SIZE + i * size + 4, order) == pointer {
-            break i;
-        }
-        i = links[i] as usize;
-    }
-}
-
-// The name for a pointer: a live thread's, or else one's that is gone.
-pub(crate) fn name_of(dump: &[u8], header: Header, pointer: u32, links: &[u16; LINKS]) -> Name
-    requires { Threads dump.now header 0 links.now }
-    ensures { result ≡ name_of dump.now header pointer }
-{
-    let live = linked_entry(dump, header, ThreadKind::Live, pointer, links);
-    if live != NOWHERE as usize {
-        return entry_name(dump, header, ThreadKind::Live, live as u32);
-    }
-    let gone = linked_entry(dump, header, ThreadKind::Gone, pointer, links);
-    if gone != NOWHERE as usize {
-        return entry_name(dump, header, ThreadKind::Gone, gone as u32);
-    }
-    Name::Nameless
+    matches!(kind, ThreadKind::Gone)
 }

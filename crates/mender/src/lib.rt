@@ -6,8 +6,7 @@ mod steps;
 
 ghost use Rattle.std.specs.Prelude.{[], ◌∷◌, ◌++◌, ◌≡◌, length};
 ghost use Rattle.rows.specs.Lent.{left_in};
-ghost use Rattle.rows.specs.Rows.{after_row, first_broken};
-ghost use Rattle.rows.specs.declared.Verdict.TheVariants.{Passed};
+ghost use Rattle.rows.specs.Rows.{first_broken};
 ghost use Rattle.trace.specs.Layout.{buffer_end, header_of};
 ghost use Rattle.trace.specs.Table.{layout_rows, row16};
 ghost use Rattle.mending.specs.Mending.{copy_of, mend_of, mending_rows, repairs_of};
@@ -15,57 +14,53 @@ ghost use Rattle.mending.specs.Mending.{copy_of, mend_of, mending_rows, repairs_
 use header::{header_of, layout_verdict};
 use mending::{Mended, Repairs};
 use packing::put_in_turn;
-use rows::Verdict;
+use rows::{Refusal, Verdict};
 use steps::{copy_whole, current_mended, free_bad_types, mend_current, zero_no_ids};
 use trace::Header;
 
 // The copy is longer than its room.
-fn row16(earlier: Verdict, end: usize, room: usize) -> Verdict
-    ensures { result ≡ after_row earlier (row16 end room) }
+#[tactic(auto, unfolding(trace::specs::Table::row16))]
+fn row16(end: usize, room: usize) -> Verdict
+    ensures { result ≡ first_broken (row16 end room ∷ []) }
 {
-    rows::after(earlier, 16, room < end, 0)
+    rows::row(16, room < end, 0)
 }
 
 // Checks 1 to 9 save 26 at the buffer end, then 16.
 fn mend_verdict(header: Header, len: usize, room: usize) -> Verdict
     ensures { result ≡ first_broken (layout_rows header len ++ (row16 (buffer_end header) room ∷ [])) }
 {
-    let end = words::offset_from(header.base, header.buffer_end);
-    let verdict = layout_verdict(header, len);
-    row16(verdict, end, room)
+    layout_verdict(header, len)?;
+    row16(words::offset_from(header.base, header.buffer_end), room)
 }
 
 // Makes the copy, which has just its room, and says what was mended.
 fn repair(dump: &[u8], header: Header, copy: &mut [u8]) -> Repairs
-    requires { (first_broken (layout_rows header (length dump.now)) ≡ Passed) × (length copy.old ≡ buffer_end header) }
+    requires { (first_broken (layout_rows header (length dump.now)) ≡ Ok tt) × (length copy.old ≡ buffer_end header) }
     ensures { (result ≡ repairs_of dump.now header) × (copy.new ≡ copy_of dump.now header) }
 {
     let missing = copy_whole(dump, header, copy);
     let current = mend_current(copy, header);
     let types = free_bad_types(copy, header);
     let ids = zero_no_ids(copy, header);
-    let packing = put_in_turn(dump, current_mended(header), copy);
+    let moved = put_in_turn(dump, current_mended(header), copy);
     Repairs {
         missing,
-        current,
+        current: usize::from(current),
         types,
         ids,
-        packed: packing.packed,
-        moved: packing.moved,
+        packed: usize::from(moved.is_some()),
+        moved: moved.unwrap_or(0),
     }
 }
 
 // Writes a repaired copy of a dump at the front of a second buffer, and gives its length and six counts of what was mended.
-pub fn mend(dump: &[u8], copy: &mut [u8]) -> Mended
+pub fn mend(dump: &[u8], copy: &mut [u8]) -> Result<Mended, Refusal>
     ensures { (result ≡ mend_of dump.now (length copy.old)) × (copy.new ≡ left_in copy.old (first_broken (mending_rows dump.now (header_of dump.now) (length copy.old))) (copy_of dump.now (header_of dump.now))) }
 {
     let header = header_of(dump);
-    let end = words::offset_from(header.base, header.buffer_end);
-    match mend_verdict(header, dump.len(), copy.len()) {
-        Verdict::Refused(refusal) => Mended::Refused(refusal),
-        Verdict::Passed => Mended::Copied {
-            length: end,
-            repairs: repair(dump, header, &mut copy[..end]),
-        },
-    }
+    let length = words::offset_from(header.base, header.buffer_end);
+    mend_verdict(header, dump.len(), copy.len())?;
+    let repairs = repair(dump, header, &mut copy[..length]);
+    Ok(Mended { length, repairs })
 }

@@ -1,4 +1,5 @@
 -- The copy: its header is the dump's but for current, all rows pass, and its events are the slots that are kept, in their order, with their bytes.
+use Rattle.std.specs.Prelude.{Ok}
 use Prim.Native.Nat.{ℕ, ◌+◌, ◌*◌, ◌≤◌, ◌<◌}
 use mathlib.Core.Bool.{Bool, true, false, cond}
 use mathlib.Core.List.{List, [], ◌∷◌, ◌++◌}
@@ -12,7 +13,6 @@ use lib.Seq.{sets, length-sets}
 use Rattle.rows.proofs.Lowest.{none_lowest}
 use Rattle.rows.proofs.Rows.{kept_too, one_kept, then_rest}
 use Rattle.rows.specs.Rows.{Row, first_broken}
-use Rattle.rows.specs.declared.Verdict.TheVariants.{Passed}
 use Rattle.trace.proofs.InTurn.{InTurn, turn_passed}
 use Rattle.trace.proofs.Passed.{buffer_sized, current_within, entries_before}
 use Rattle.trace.proofs.Ring.{count_is, first_count, first_slot}
@@ -47,12 +47,12 @@ kept_count s h = length (oldest_first (after_ids s h) (current_mended h))
 abbrev pub copy_current : List ℕ → Header → ℕ
 copy_current s h = cond (is_out_of_turn (after_ids s h) (current_mended h)) (pointer_to h.base (slot_at (current_mended h) (kept_count s h))) (sound_current h)
 
-module _ (s : List ℕ) (h : Header) (more : List Row) (passed : first_broken (layout_rows h (length s) ++ more) ≡ Passed) where
+module _ (s : List ℕ) (h : Header) (more : List Row) (passed : first_broken (layout_rows h (length s) ++ more) ≡ Ok tt) where
   behind_header : header_size ≤ buffer_start h
   behind_header = omega (arith, entries_before h (length s) more passed)
 
   -- the rows of the header with current as it is mended, of the copy before packing
-  pub before_passed : first_broken (header_rows (current_mended h) (length (after_ids s h))) ≡ Passed
+  pub before_passed : first_broken (header_rows (current_mended h) (length (after_ids s h))) ≡ Ok tt
   before_passed = rw (after_length s h) (mended_passed h (length s) more passed)
 
   no_fault : (i : ℕ) → i < slot_count (current_mended h) → is_at_fault NoId (after_ids s h) (current_mended h) i ≡ false
@@ -107,18 +107,18 @@ module _ (s : List ℕ) (h : Header) (more : List Row) (passed : first_broken (l
       by false = before_word stored
 
   -- where rows 1 to 11 pass, and slots are in turn and have ids, all pass
-  all_pass : (t : List ℕ) (g : Header) → first_broken (registry_rows t g) ≡ Passed → is_out_of_turn t g ≡ false → ((i : ℕ) → i < slot_count g → is_at_fault NoId t g i ≡ false)
-      → first_broken (dump_rows t g) ≡ Passed
+  all_pass : (t : List ℕ) (g : Header) → first_broken (registry_rows t g) ≡ Ok tt → is_out_of_turn t g ≡ false → ((i : ℕ) → i < slot_count g → is_at_fault NoId t g i ≡ false)
+      → first_broken (dump_rows t g) ≡ Ok tt
   unfolding row13
   all_pass t g rows turn ids =
       sym (then_rest (registry_rows t g) (row12 t g ∷ row13 t g ∷ []) rows)
       ∙ kept_too (row12 t g) (row13 t g ∷ []) turn (one_kept (row13 t g) (none_lowest (is_at_fault NoId t g) (slot_count g) ids))
 
   -- the rows of the registry
-  registry_passed : (current : ℕ) → (row10 (with_current h current)).broken ≡ false → first_broken (registry_rows (copy_of s h) (with_current h current)) ≡ Passed
+  registry_passed : (current : ℕ) → (row10 (with_current h current)).broken ≡ false → first_broken (registry_rows (copy_of s h) (with_current h current)) ≡ Ok tt
   unfolding row11
   registry_passed current right =
-      let header : first_broken (header_rows (with_current h current) (length (copy_of s h))) ≡ Passed = rw (copy_length s h) (copy_passed h (length s) more passed current right) in
+      let header : first_broken (header_rows (with_current h current) (length (copy_of s h))) ≡ Ok tt = rw (copy_length s h) (copy_passed h (length s) more passed current right) in
       sym (then_rest (header_rows (with_current h current) (length (copy_of s h))) (row11 (copy_of s h) (with_current h current) ∷ []) header)
       ∙ one_kept (row11 (copy_of s h) (with_current h current))
       (none_lowest (is_wanted BadType (copy_of s h) h) (entry_count h) (copy_types s h more passed (copy_of s h) (omega (arith, copy_length s h)) registry_bytes))
@@ -148,14 +148,14 @@ module _ (s : List ℕ) (h : Header) (more : List Row) (passed : first_broken (l
   turned : is_out_of_turn (after_ids s h) (current_mended h) ≡ true → InTurn (copy_of s h) (with_current h (copy_current s h)) (kept_count s h)
   turned out = if_packed out (λ t g. InTurn t g (kept_count s h)) (packed_turn (after_ids s h) (current_mended h) (after_length s h) before_passed out no_fault)
 
-  pub copy_rows : first_broken (dump_rows (copy_of s h) (with_current h (copy_current s h))) ≡ Passed
+  pub copy_rows : first_broken (dump_rows (copy_of s h) (with_current h (copy_current s h))) ≡ Ok tt
   copy_rows = by (is_out_of_turn (after_ids s h) (current_mended h)) refl (registry_passed (copy_current s h) right)
     where
-      by : (b : Bool) → is_out_of_turn (after_ids s h) (current_mended h) ≡ b → first_broken (registry_rows (copy_of s h) (with_current h (copy_current s h))) ≡ Passed
-          → first_broken (dump_rows (copy_of s h) (with_current h (copy_current s h))) ≡ Passed
+      by : (b : Bool) → is_out_of_turn (after_ids s h) (current_mended h) ≡ b → first_broken (registry_rows (copy_of s h) (with_current h (copy_current s h))) ≡ Ok tt
+          → first_broken (dump_rows (copy_of s h) (with_current h (copy_current s h))) ≡ Ok tt
       by true out rows = turn_passed (copy_of s h) (with_current h (copy_current s h)) (kept_count s h) (turned out) rows
       by false turn rows =
-          if_in_turn turn (λ t g. first_broken (registry_rows t g) ≡ Passed → first_broken (dump_rows t g) ≡ Passed)
+          if_in_turn turn (λ t g. first_broken (registry_rows t g) ≡ Ok tt → first_broken (dump_rows t g) ≡ Ok tt)
           (λ rest. all_pass (after_ids s h) (current_mended h) rest turn no_fault) rows
 
   -- its events are as many as slots are kept
@@ -219,7 +219,7 @@ module _ (s : List ℕ) (h : Header) (more : List Row) (passed : first_broken (l
       ∙ kept_from p below k within
 
 -- the header of the copy of a dump
-pub copy_header : (s : List ℕ) (more : List Row) → first_broken (layout_rows (header_of s) (length s) ++ more) ≡ Passed
+pub copy_header : (s : List ℕ) (more : List Row) → first_broken (layout_rows (header_of s) (length s) ++ more) ≡ Ok tt
     → header_of (copy_of s (header_of s)) ≡ with_current (header_of s) (copy_current s (header_of s))
 unfolding header_in
 copy_header s more passed =

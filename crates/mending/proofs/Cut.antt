@@ -1,4 +1,5 @@
 -- A sound dump of which only slots are missing: the slots that are kept are those of its events that came whole, in their order.
+use Rattle.std.specs.Prelude.{Ok}
 use Prim.Native.Nat.{ℕ, ◌+◌, ◌≤◌, ◌<◌}
 use mathlib.Core.Bool.{Bool, true, false, cond, not, ◌&&◌}
 use mathlib.Core.List.{List, [], ◌∷◌}
@@ -11,7 +12,6 @@ use lib.Seq.{get_or-take}
 use Rattle.rows.proofs.Lowest.{none_hit}
 use Rattle.rows.proofs.Rows.{among, unbroken}
 use Rattle.rows.specs.Rows.{first_broken}
-use Rattle.rows.specs.declared.Verdict.TheVariants.{Passed}
 use Rattle.trace.proofs.Passed.{current_within, dump_short, registry_sized, registry_within, slot_some}
 use Rattle.trace.proofs.Ring.{from_below}
 use Rattle.trace.proofs.SameBytes.{same_header, same_slot}
@@ -40,7 +40,7 @@ keep_both t u (i ∷ is) = by (t i) (u i) refl (keep_both t u is)
     by false false is-u e = e
 
 -- of the first n bytes of a sound dump, up to the registry's end at least
-module _ (s : List ℕ) (n : ℕ) (passed : first_broken (dump_rows s (header_of s)) ≡ Passed) (there : registry_end (header_of s) ≤ n) where
+module _ (s : List ℕ) (n : ℕ) (passed : first_broken (dump_rows s (header_of s)) ≡ Ok tt) (there : registry_end (header_of s) ≤ n) where
   reach : registry_end (header_of s) ≤ length (take n s)
   reach = rw length-take (omega (arith, registry_within (header_of s) (length s) _ passed))
 
@@ -49,7 +49,7 @@ module _ (s : List ℕ) (n : ℕ) (passed : first_broken (dump_rows s (header_of
   cut_header = same_header s (take n s) (λ k below aside. get_or-take n s (0 + k) 0 (omega (arith, registry_sized (header_of s) (length s) _ passed)))
 
   -- and their layout is accepted
-  pub cut_layout : first_broken (layout_rows (header_of s) (length (take n s))) ≡ Passed
+  pub cut_layout : first_broken (layout_rows (header_of s) (length (take n s))) ≡ Ok tt
   cut_layout = layout_passed (header_of s) (length s) _ passed (length (take n s)) reach (rw length-take (omega (arith, dump_short (header_of s) (length s) _ passed)))
 
   -- a slot is kept that came whole and is used: then it has an id

@@ -1,4 +1,5 @@
 -- The registry of a copy: entries with a bad type have flag 1 and else their bytes, others all of theirs; so no type is bad, and every name is found as before.
+use Rattle.std.specs.Prelude.{Ok}
 use Prim.Native.Nat.{ℕ, ◌+◌, ◌≤◌, ◌<◌}
 use mathlib.Core.Bool.{Bool, true, false, cond, not, and-eq-true_iff, not-eq-not, true≢false}
 use mathlib.Core.List.{List, ◌++◌}
@@ -12,7 +13,6 @@ use lib.Seq.{get_or-set_other, get_or-set_same}
 use Rattle.rows.proofs.Lowest.{count_same, lowest_hit, lowest_same}
 use Rattle.rows.specs.Lowest.{count}
 use Rattle.rows.specs.Rows.{Row, first_broken}
-use Rattle.rows.specs.declared.Verdict.TheVariants.{Passed}
 use Rattle.trace.proofs.Passed.{buffer_sized, entry_in_registry, registry_within, slots_start}
 use Rattle.trace.proofs.SameBytes.{Same, same_wanted}
 use Rattle.trace.proofs.Threads.{thread_missed}
@@ -42,7 +42,7 @@ free_typed : (s : List ℕ) (h : Header) (i : ℕ) → get_or s (entry_at h i) 0
 unfolding is_wanted_at is_in_use
 free_typed s h i free = rw (add-zero (entry_at h i), free)
 
-module _ (s : List ℕ) (h : Header) (more : List Row) (passed : first_broken (layout_rows h (length s) ++ more) ≡ Passed) where
+module _ (s : List ℕ) (h : Header) (more : List Row) (passed : first_broken (layout_rows h (length s) ++ more) ≡ Ok tt) where
   -- an entry ends where the slots begin, at the latest
   entry_front : (i : ℕ) → i < entry_count h → entry_at h i + entry_size h ≤ buffer_start h
   entry_front i below = omega (arith, entry_in_registry h i below, slots_start h (length s) more passed)
@@ -81,7 +81,7 @@ module _ (s : List ℕ) (h : Header) (more : List Row) (passed : first_broken (l
         by false e = e ∙ entry_before i below k within
 
 -- a list that has the same registry as that
-module _ (s : List ℕ) (h : Header) (more : List Row) (passed : first_broken (layout_rows h (length s) ++ more) ≡ Passed)
+module _ (s : List ℕ) (h : Header) (more : List Row) (passed : first_broken (layout_rows h (length s) ++ more) ≡ Ok tt)
     (t : List ℕ) (long : buffer_end h ≤ length t) (same : (k : ℕ) → header_size ≤ k → k < buffer_start h → get_or t k 0 ≡ get_or (after_types s h) k 0) where
   module _ (i : ℕ) (below : i < entry_count h) where
     in-registry : Same (after_types s h) t (entry_at h i) (entry_size h)

@@ -1,4 +1,5 @@
 -- A dump that passes is its own copy, up to the buffer end, and nothing is counted; so a copy that is mended again stays as it is.
+use Rattle.std.specs.Prelude.{Ok}
 use Prim.Native.Nat.{ℕ, ◌+◌, ◌≤◌, ◌<◌}
 use mathlib.Core.Bool.{false, cond}
 use mathlib.Core.List.{List, ◌++◌, append-nil}
@@ -13,7 +14,6 @@ use Rattle.rows.proofs.Lowest.{count_none, none_hit}
 use Rattle.rows.proofs.Rows.{among, unbroken}
 use Rattle.rows.specs.Lowest.{count, lowest}
 use Rattle.rows.specs.Rows.{Row, first_broken}
-use Rattle.rows.specs.declared.Verdict.TheVariants.{Passed}
 use Rattle.trace.proofs.Passed.{current_within, entry_in_registry, slot_some, slot_within, slots_start, slots_within, buffer_sized}
 use Rattle.trace.proofs.SameBytes.{Same, same_slot, same_wanted}
 use Rattle.trace.proofs.SameDumps.{fault_same}
@@ -39,7 +39,7 @@ use Rattle.mending.proofs.Packed.{copy_length}
 abbrev pub no_repairs : Repairs
 no_repairs = record { missing = 0; current = 0; types = 0; ids = 0; packed = 0; moved = 0 }
 
-module _ (s : List ℕ) (h : Header) (passed : first_broken (dump_rows s h) ≡ Passed) where
+module _ (s : List ℕ) (h : Header) (passed : first_broken (dump_rows s h) ≡ Ok tt) where
   whole : buffer_end h ≤ length s
   whole = slots_within h (length s) _ passed
 
@@ -122,8 +122,8 @@ module _ (s : List ℕ) (h : Header) (passed : first_broken (dump_rows s h) ≡ 
       ids_none = rw third_step (count_none (is_at_fault NoId (take (buffer_end h) s) h) (slot_count h) none_without)
 
 -- a copy that is mended again
-module _ (s : List ℕ) (more : List Row) (passed : first_broken (layout_rows (header_of s) (length s) ++ more) ≡ Passed) where
-  pub copy_passes : first_broken (dump_rows (copy_of s (header_of s)) (header_of (copy_of s (header_of s)))) ≡ Passed
+module _ (s : List ℕ) (more : List Row) (passed : first_broken (layout_rows (header_of s) (length s) ++ more) ≡ Ok tt) where
+  pub copy_passes : first_broken (dump_rows (copy_of s (header_of s)) (header_of (copy_of s (header_of s)))) ≡ Ok tt
   copy_passes = rw (copy_header s more passed) (copy_rows s (header_of s) more passed)
 
   pub again_copy : copy_of (copy_of s (header_of s)) (header_of (copy_of s (header_of s))) ≡ copy_of s (header_of s)

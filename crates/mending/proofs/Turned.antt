@@ -1,4 +1,5 @@
 -- Slots that are packed: the used ones stand first, in the order from current, zeros follow, and current is behind them; so they are in turn.
+use Rattle.std.specs.Prelude.{Ok}
 use Prim.Native.Nat.{ℕ, ◌+◌, ◌-◌, ◌*◌, ◌≤◌, ◌<◌}
 use mathlib.Core.Bool.{true, false, not, ◌&&◌, true≢false}
 use mathlib.Core.List.{List, []}
@@ -13,7 +14,6 @@ use lib.ListN.{get_or, length, get_or-replicate, length-append, length-replicate
 use lib.Seq.{get_or-append-add}
 use Rattle.rows.proofs.Lowest.{count_all, count_le, none_lowest}
 use Rattle.rows.specs.Rows.{first_broken}
-use Rattle.rows.specs.declared.Verdict.TheVariants.{Passed}
 use Rattle.trace.proofs.InTurn.{InTurn}
 use Rattle.trace.proofs.Passed.{agreed, current_within, entries_before, slot_some, slots_end}
 use Rattle.trace.proofs.Ring.{keep_below, keep_test, kept-count, from_below}
@@ -31,7 +31,7 @@ use Rattle.mending.specs.Steps.{is_out_of_turn, packed, packed_slots, slots_of}
 use Rattle.mending.proofs.Packed.{parts_byte, parts_length, rest_size}
 use Rattle.mending.proofs.Slots.{zeros_unused}
 
-module _ (s : List ℕ) (h : Header) (long : length s ≡ buffer_end h) (passed : first_broken (header_rows h (length s)) ≡ Passed) where
+module _ (s : List ℕ) (h : Header) (long : length s ≡ buffer_end h) (passed : first_broken (header_rows h (length s)) ≡ Ok tt) where
   inside : current_slot h < slot_count h
   inside = current_within h (length s) [] passed
 

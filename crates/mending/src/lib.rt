@@ -1,8 +1,6 @@
 // Mending a dump as document 02 describes it: types here, and in specs/ what the promise of the mender cites. No code.
 #![tactic(auto)]
 
-use rows::Refusal;
-
 // What was mended, in six counts: slots zeroed as missing, a bad current (0 or 1), entries in use with a bad type, used slots with id 0, whether slots were packed
 // (0 or 1), and used slots whose index packing changed.
 #[derive(Clone, Copy)]
@@ -15,9 +13,9 @@ pub struct Repairs {
     pub moved: usize,
 }
 
-// What mending gives: a refusal, or the copy's length and what was mended.
+// What mending gives: the copy's length and what was mended.
 #[derive(Clone, Copy)]
-pub enum Mended {
-    Refused(Refusal),
-    Copied { length: usize, repairs: Repairs },
+pub struct Mended {
+    pub length: usize,
+    pub repairs: Repairs,
 }

@@ -1,59 +1,53 @@
 // Reads name files (document 02, A7): checks one, and finds the name of an event or of a thread in it.
 #![tactic(auto)]
 
-ghost use Rattle.std.specs.Prelude.{[], ◌∷◌, ◌≡◌, ◌<◌, ◌^◌, length};
+ghost use Rattle.std.specs.Prelude.{[], ◌∷◌, ◌≡◌, ◌<◌, ◌^◌, length, option_copied};
 ghost use Rattle.rows.specs.Rows.{first_broken};
 ghost use Rattle.trace.specs.Table.{row2};
-ghost use Rattle.naming.specs.Records.{end_at, file_rows, if_given, is_sought_at, kind_at, kind_of, length_at, name_at, name_in, number_at, record_name, row27};
+ghost use Rattle.naming.specs.Records.{end_at, file_rows, is_sought_at, kind_at, kind_of, length_at, name_at, name_in, number_at, record_name, row27};
 ghost use Rattle.naming.specs.declared.Sought.TheVariants.{Damaged};
 ghost use Rattle.namer.specs.Searches.{sought_at};
 
 use naming::{NAME_START, RECORD_FRONT, Sought, Subject};
-use rows::{Refusal, Verdict, above, both, either};
+use rows::Verdict;
 use trace::{MOST_BYTES, Name};
 use words::Order;
 
 // Checks a name file, where one is given: 2, 27.
-pub fn file_verdict(given: bool, names: &[u8]) -> Verdict
-    ensures { result ≡ first_broken (file_rows (if_given given names.now)) }
+#[tactic(auto, unfolding(rows::specs::Rows::first_broken))]
+pub fn file_verdict(names: Option<&[u8]>) -> Verdict
+    ensures { result ≡ first_broken (file_rows (option_copied names.entry)) }
 {
-    if given {
-        return given_verdict(names);
+    match names {
+        Some(names) => given_verdict(names),
+        None => Ok(()),
     }
-    Verdict::Passed
 }
 
 fn given_verdict(names: &[u8]) -> Verdict
     ensures { result ≡ first_broken (row2 (length names.now) ∷ row27 names.now ∷ []) }
 {
-    if names.len() > MOST_BYTES {
-        return Verdict::Refused(Refusal {
-            number: 2,
-            place: 0,
-        });
-    }
+    rows::row(2, names.len() > MOST_BYTES, 0)?;
     let at = first_record(names, Sought::Damaged);
-    rows::after(Verdict::Passed, 27, at < names.len(), at)
+    rows::row(27, at < names.len(), at)
 }
 
 // The name in a file, where one is given, for an event's id or a thread's pointer: the first record for it counts.
-pub fn name_in(subject: Subject, given: bool, names: &[u8], number: u32) -> Name
-    ensures { result ≡ name_in subject (if_given given names.now) number }
+#[tactic(auto, unfolding(naming::specs::Records::name_in))]
+pub fn name_in(subject: Subject, names: Option<&[u8]>, number: u32) -> Option<Name>
+    ensures { result ≡ name_in subject (option_copied names.entry) number }
 {
-    if given {
-        return record_name(subject, names, number);
-    }
-    Name::Nameless
+    record_name(subject, names?, number)
 }
 
-fn record_name(subject: Subject, names: &[u8], number: u32) -> Name
+fn record_name(subject: Subject, names: &[u8], number: u32) -> Option<Name>
     ensures { result ≡ record_name subject names.now number }
 {
     let at = first_record(names, Sought::Naming { subject, number });
     if at < names.len() {
-        return name_from(names, at);
+        return Some(name_from(names, at));
     }
-    Name::Nameless
+    None
 }
 
 // The name in the record at a place, whether or not one starts there.
@@ -69,7 +63,7 @@ fn name_from(names: &[u8], at: usize) -> Name
 {
     Name::Filed {
         at: at + NAME_START,
-        length: above(length_at(names, at), 4),
+        length: length_at(names, at).saturating_sub(4),
     }
 }
 
@@ -78,6 +72,7 @@ pub fn first_record(names: &[u8], sought: Sought) -> usize
     ensures { result ≡ sought_at sought names.now }
 {
     let mut at = 0;
+    // No range counts the records: where one ends is read from it.
     loop {
         if at >= names.len() {
             break names.len();
@@ -89,29 +84,27 @@ pub fn first_record(names: &[u8], sought: Sought) -> usize
     }
 }
 
+#[tactic(auto, unfolding(naming::specs::Records::is_sought_at))]
 fn is_sought(names: &[u8], at: usize, sought: Sought) -> bool
     requires { at < 2 ^ 63 }
     ensures { result ≡ is_sought_at sought names.now at }
 {
     match sought {
         Sought::Damaged => is_damaged(names, at),
-        Sought::Naming { subject, number } => both(
-            kind_at(names, at) == kind_of(subject),
-            number_at(names, at) == number,
-        ),
+        Sought::Naming { subject, number } => {
+            kind_at(names, at) == kind_of(subject) && number_at(names, at) == number
+        }
     }
 }
 
+#[tactic(auto, unfolding(naming::specs::Records::is_sought_at))]
 fn is_damaged(names: &[u8], at: usize) -> bool
     requires { at < 2 ^ 63 }
     ensures { result ≡ is_sought_at Damaged names.now at }
 {
     let kind = kind_at(names, at);
     let short = length_at(names, at) < 4;
-    either(
-        names.len() < end_of(names, at),
-        both(either(kind == 1, kind == 2), short),
-    )
+    names.len() < end_of(names, at) || ((kind == 1 || kind == 2) && short)
 }
 
 // The kind of a record that names an event or a thread.

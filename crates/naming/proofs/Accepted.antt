@@ -1,9 +1,9 @@
 -- A file is accepted just where it has at most 65,536 bytes and no record is damaged; each record then lies within it, and one of kind 1 or 2 has its number.
+use Rattle.std.specs.Prelude.{Err, Ok, Some}
 use Prim.Native.Nat.{ℕ, ◌≤◌, ◌<◌}
 use mathlib.Core.Bool.{Bool, cond, false, true, ◌&&◌, ◌||◌, or-true, true≢false}
 use mathlib.Core.List.{List, [], ◌∷◌}
 use mathlib.Core.Logic.{◌⊎◌, inl, inr}
-use mathlib.Core.Option.{some}
 use mathlib.Core.Path.{◌≡◌, refl, sym, ap, ◌∙◌}
 use native.Mathlib.Omega.{arith}
 use borrow.Author.Tests.{eq-eqb, eqb-true, le-ltb, lt-ltb, ltb-true}
@@ -12,9 +12,8 @@ use lib.ListN.{length}
 use Rattle.rows.proofs.Lowest.{none_hit}
 use Rattle.rows.proofs.Numbered.{by_number}
 use Rattle.rows.proofs.Rows.{here, further, kept_too, one_kept, then_broken, unbroken}
-use Rattle.rows.specs.Rows.{Accepted, first_broken, refusal}
+use Rattle.rows.specs.Rows.{Accepted, first_broken, refusal, Verdict}
 use Rattle.rows.specs.declared.Refusal.{Refusal}
-use Rattle.rows.specs.declared.Verdict.TheVariants.{Passed, Refused}
 use Rattle.trace.specs.Layout.{most_bytes}
 use Rattle.trace.specs.Table.{row2}
 use Rattle.naming.specs.Records.{end_at, file_rows, first_record, has_record, is_sought_at, kind_at, kind_of, length_at, record_at, record_count, row27}
@@ -48,11 +47,11 @@ module _ (f : List ℕ) where
   faulty_hit at (inr (inr two, short)) = rw (eq-eqb (kind_at f at) 2 two, or-true, lt-ltb _ _ short, or-true)
 
   -- a file that is refused by 27 has such a record, at the place given
-  pub refused_at : (at : ℕ) → first_broken (file_rows (some f)) ≡ Refused (record { number = 27; place = at }) → (has_record Damaged f ≡ true) × (record_at f (first_record Damaged f) ≡ at)
+  pub refused_at : (at : ℕ) → first_broken (file_rows (Some f)) ≡ Err (record { number = 27; place = at }) → (has_record Damaged f ≡ true) × (record_at f (first_record Damaged f) ≡ at)
   unfolding first_broken row2 row27
-  refused_at at refused = by (has_record Damaged f) refl (by_number (file_rows (some f)) (record { number = 27; place = at }) refused)
+  refused_at at refused = by (has_record Damaged f) refl (by_number (file_rows (Some f)) (record { number = 27; place = at }) refused)
     where
-      by : (b : Bool) → has_record Damaged f ≡ b → cond b (Refused (refusal (row27 f))) Passed ≡ Refused (record { number = 27; place = at })
+      by : (b : Bool) → has_record Damaged f ≡ b → cond {A = Verdict} b (Err (refusal (row27 f))) (Ok tt) ≡ Err (record { number = 27; place = at })
           → (has_record Damaged f ≡ true) × (record_at f (first_record Damaged f) ≡ at)
       by true damaged same =
           let one : refusal (row27 f) ≡ record { number = 27; place = at } = cc in
@@ -60,15 +59,15 @@ module _ (f : List ℕ) where
       by false whole same = (cc, cc)
 
   -- and one of at most 65,536 bytes that has such a record is refused so
-  pub damaged_refused : length f ≤ most_bytes → has_record Damaged f ≡ true → first_broken (file_rows (some f)) ≡ Refused (record { number = 27; place = record_at f (first_record Damaged f) })
+  pub damaged_refused : length f ≤ most_bytes → has_record Damaged f ≡ true → first_broken (file_rows (Some f)) ≡ Err (record { number = 27; place = record_at f (first_record Damaged f) })
   unfolding row2 row27
   damaged_refused short damaged = then_broken (row2 (length f) ∷ []) (row27 f) [] (one_kept (row2 (length f)) (le-ltb most_bytes (length f) short)) damaged
 
-  pub whole_accepted : length f ≤ most_bytes → has_record Damaged f ≡ false → Accepted (file_rows (some f))
+  pub whole_accepted : length f ≤ most_bytes → has_record Damaged f ≡ false → Accepted (file_rows (Some f))
   unfolding row2 row27
   whole_accepted short whole = kept_too (row2 (length f)) _ (le-ltb most_bytes (length f) short) (one_kept (row27 f) whole)
 
-  module _ (accepted : Accepted (file_rows (some f))) where
+  module _ (accepted : Accepted (file_rows (Some f))) where
     pub accepted_whole : has_record Damaged f ≡ false
     unfolding row27
     accepted_whole = unbroken accepted (row27 f) (further here)

@@ -1,4 +1,5 @@
 pub mod Accepted
+pub mod Finding
 pub mod Named
 pub mod ReadBack
 pub mod Records

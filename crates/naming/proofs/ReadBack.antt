@@ -1,8 +1,8 @@
 -- A record's bytes in front of more: its length, its kind, its number and its name are read back of them, and the rest is what follows.
+use Rattle.std.specs.Prelude.{Some}
 use Prim.Native.Nat.{ℕ, ◌+◌, ◌-◌, ◌^◌, ◌≤◌, ◌<◌}
 use mathlib.Core.Bool.{cond, false, ◌&&◌, and-false}
 use mathlib.Core.List.{List, ◌++◌, append_assoc}
-use mathlib.Core.Option.{some}
 use mathlib.Core.Path.{◌≡◌, sym, ◌∙◌}
 use native.Mathlib.Omega.{arith}
 use borrow.Author.Tests.{le-ltb}
@@ -59,7 +59,7 @@ module _ (subject : Subject) (number : ℕ) (name more : List ℕ) (fits : recor
   rest_back : drop (end_at file 0) file ≡ more
   rest_back = drop_at (record_bytes subject number name) more (end_at file 0) (record_length subject number name ∙ sym end_back)
 
-  name_back : (dump : List ℕ) → name_bytes (some file) dump (name_at file 0) ≡ some name
+  name_back : (dump : List ℕ) → name_bytes (Some file) dump (Some (name_at file 0)) ≡ Some name
   unfolding name_bytes
   name_back dump =
       let size : length_at file 0 - 4 ≡ length name = omega (arith, length_back) in
@@ -75,7 +75,7 @@ module _ (subject : Subject) (number : ℕ) (name more : List ℕ) (fits : recor
 
   -- and it gives its name for its own number, as those that follow do for others
   pub name_or_behind : number < 2 ^ 32 → (dump : List ℕ) (wanted : Subject) (sought : ℕ)
-      → name_bytes (some file) dump (record_name wanted file sought) ≡ cond (eqb (kind_of subject) (kind_of wanted) && eqb number sought) (some name) (name_bytes (some more) dump (record_name wanted more sought))
+      → name_bytes (Some file) dump (record_name wanted file sought) ≡ cond (eqb (kind_of subject) (kind_of wanted) && eqb number sought) (Some name) (name_bytes (Some more) dump (record_name wanted more sought))
   unfolding is_sought_at
   name_or_behind small dump wanted sought =
       name_bytes_there file within dump wanted sought ∙ rw (kind_back, number_back small, name_back dump, rest_back)

@@ -1,8 +1,8 @@
 -- Behind the first record, where that lies within a file, the rest is a file of its own: its records are the others, and what is sought is the first one or is sought there.
+use Rattle.std.specs.Prelude.{None, Some}
 use Prim.Native.Nat.{ℕ, zero, suc, ◌+◌, ◌-◌, ◌≤◌, ◌<◌}
 use mathlib.Core.Bool.{Bool, cond, false, true, ◌&&◌, ◌||◌}
 use mathlib.Core.List.{List}
-use mathlib.Core.Option.{some}
 use mathlib.Core.Path.{◌≡◌, refl, sym, ap, ap₂, ◌∙◌}
 use native.Mathlib.Decide.{dec_lt}
 use native.Mathlib.Nat.{add_assoc}
@@ -14,7 +14,6 @@ use lib.Seq.{drop-drop}
 use Rattle.rows.proofs.Lowest.{lowest_same}
 use Rattle.rows.specs.Lowest.{lowest}
 use Rattle.trace.specs.Names.{name_bytes}
-use Rattle.trace.specs.declared.Name.TheVariants.{Nameless}
 use Rattle.words.proofs.Laws.{drop_read}
 use Rattle.words.specs.declared.Order.TheVariants.{Little}
 use Rattle.naming.specs.Records.{end_at, first_record, has_record, is_sought_at, kind_at, kind_of, length_at, name_at, number_at, record_at, record_count, record_name}
@@ -57,7 +56,7 @@ module _ (f : List ℕ) (within : end_at f 0 ≤ length f) where
       (ap₂ (λ (kind size : ℕ). (eqb kind 1 || eqb kind 2) && ltb size 4) (kind_there k) (length_there k))
   sought_there (Naming subject number) k = ap₂ (λ (kind n : ℕ). eqb kind (kind_of subject) && eqb n number) (kind_there k) (number_there k)
 
-  name_there : (dump : List ℕ) (k : ℕ) → name_bytes (some f) dump (name_at f (behind + k)) ≡ name_bytes (some rest) dump (name_at rest k)
+  name_there : (dump : List ℕ) (k : ℕ) → name_bytes (Some f) dump (Some (name_at f (behind + k))) ≡ name_bytes (Some rest) dump (Some (name_at rest k))
   unfolding name_bytes
   name_there dump k = rw (length_there k, add_assoc behind k 8, drop-drop)
 
@@ -99,7 +98,7 @@ module _ (f : List ℕ) (within : end_at f 0 ≤ length f) where
 
   -- so the name for a number is that of the first record, or the name that the rest gives
   pub name_bytes_there : (dump : List ℕ) (subject : Subject) (number : ℕ)
-      → name_bytes (some f) dump (record_name subject f number) ≡ cond (is_sought_at (Naming subject number) f 0) (name_bytes (some f) dump (name_at f 0)) (name_bytes (some rest) dump (record_name subject rest number))
+      → name_bytes (Some f) dump (record_name subject f number) ≡ cond (is_sought_at (Naming subject number) f 0) (name_bytes (Some f) dump (Some (name_at f 0))) (name_bytes (Some rest) dump (record_name subject rest number))
   unfolding name_bytes record_name record_at
   name_bytes_there dump subject number = rw (has_there sought, first_there sought) (by (is_sought_at sought f 0) (has_record sought rest))
     where
@@ -110,7 +109,7 @@ module _ (f : List ℕ) (within : end_at f 0 ≤ length f) where
       i = first_record sought rest
 
       by : (b has : Bool)
-          → name_bytes (some f) dump (cond (b || has) (name_at f (record_at f (cond b 0 (suc i)))) Nameless) ≡ cond b (name_bytes (some f) dump (name_at f 0)) (name_bytes (some rest) dump (cond has (name_at rest (record_at rest i)) Nameless))
+          → name_bytes (Some f) dump (cond (b || has) (Some (name_at f (record_at f (cond b 0 (suc i))))) None) ≡ cond b (name_bytes (Some f) dump (Some (name_at f 0))) (name_bytes (Some rest) dump (cond has (Some (name_at rest (record_at rest i))) None))
       by true has = refl
-      by false true = ap (λ (at : ℕ). name_bytes (some f) dump (name_at f at)) (records_there i) ∙ name_there dump (record_at rest i)
+      by false true = ap (λ (at : ℕ). name_bytes (Some f) dump (Some (name_at f at))) (records_there i) ∙ name_there dump (record_at rest i)
       by false false = refl

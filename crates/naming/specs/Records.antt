@@ -1,11 +1,10 @@
 -- A name file: records one after another, each a two-byte length, a two-byte kind, and that many bytes, all little-endian (document 02, A7).
-use Rattle.std.specs.Prelude.{ℕ, zero, suc, ◌+◌, ◌-◌, Bool, true, false, cond, ◌&&◌, ◌||◌, List, [], ◌∷◌, eqb, leb, ltb, length}
-use Rattle.std.proofs.Math.Option.{Option, none, some}
+use Rattle.std.specs.Prelude.{ℕ, zero, suc, ◌+◌, ◌-◌, Bool, cond, ◌&&◌, ◌||◌, List, [], ◌∷◌, eqb, leb, ltb, length, None, Option, Some}
 use Rattle.rows.specs.Lowest.{lowest}
 use Rattle.rows.specs.Rows.{Row, row_at}
 use Rattle.trace.specs.Table.{row2}
+use Rattle.trace.specs.declared.Name.TheVariants.{Filed}
 use Rattle.trace.specs.declared.Name.{Name}
-use Rattle.trace.specs.declared.Name.TheVariants.{Filed, Nameless}
 use Rattle.words.specs.Words.{half_at, word_at}
 use Rattle.words.specs.declared.Order.TheVariants.{Little}
 use Rattle.naming.specs.declared.Sought.{Sought}
@@ -62,20 +61,15 @@ row27 f = row_at 27 (has_record Damaged f) (record_at f (first_record Damaged f)
 
 -- the whole file is checked, where one is given: 2, 27
 abbrev pub file_rows : Option (List ℕ) → List Row
-file_rows none = []
-file_rows (some f) = row2 (length f) ∷ row27 f ∷ []
+file_rows None = []
+file_rows (Some f) = row2 (length f) ∷ row27 f ∷ []
 
 -- the name in a file for an event's id or a thread's pointer: the first record for it counts
-unfoldable pub record_name : Subject → List ℕ → ℕ → Name
+unfoldable pub record_name : Subject → List ℕ → ℕ → Option Name
 record_name subject f number =
-    cond (has_record (Naming subject number) f) (name_at f (record_at f (first_record (Naming subject number) f))) Nameless
+    cond (has_record (Naming subject number) f) (Some (name_at f (record_at f (first_record (Naming subject number) f)))) None
 
 -- where no file is given, there is none
-unfoldable pub name_in : Subject → Option (List ℕ) → ℕ → Name
-name_in subject none number = Nameless
-name_in subject (some f) number = record_name subject f number
-
--- the file that a flag and bytes stand for
-unfoldable pub if_given : Bool → List ℕ → Option (List ℕ)
-if_given true f = some f
-if_given false f = none
+unfoldable pub name_in : Subject → Option (List ℕ) → ℕ → Option Name
+name_in subject None number = None
+name_in subject (Some f) number = record_name subject f number

@@ -8,6 +8,8 @@ ghost use Rattle.text.specs.Output.{Fitted, Put, Wrote, printed};
 ghost use Rattle.numbers.specs.Counts.{IsCount};
 ghost use Rattle.numbers.specs.Pairs.{digits_by, eight_by, four_by, number_by, pair_by, pairs as pairs_table};
 
+use output::Printed;
+
 // The two digits of each number below a hundred.
 const PAIRS: [u8; 200] =
     *b"00010203040506070809101112131415161718192021222324252627282930313233343536373839404142434445464748495051525354555657585960616263646566676869707172737475767778798081828384858687888990919293949596979899";
@@ -41,6 +43,7 @@ pub fn number_length(x: u64) -> usize
 pub fn put_number(out: &mut [u8], x: u64) -> usize
     ensures { Put (printed (number x) out.old) out.old out.new result }
 {
+    // Asked here too: as one call over the length, a number takes a tenth more instructions.
     if is_short(out.len(), x) {
         return 0;
     }
@@ -48,7 +51,23 @@ pub fn put_number(out: &mut [u8], x: u64) -> usize
     fit_number(out, x, &table)
 }
 
-// The same by whatever table is lent, but for its answer: the length, whether there is room or not.
+// A number, and the table of pairs that it is printed by.
+#[derive(Clone, Copy)]
+pub struct Number<'a> {
+    pub x: u64,
+    pub pairs: &'a [u8; 200],
+}
+
+impl Printed for Number<'_> {
+    ghost text = { λ number. number_by number.pairs.now number.x };
+
+    fn fit(self, out: &mut [u8]) -> usize {
+        fit_number(out, self.x, self.pairs)
+    }
+}
+
+// The same by whatever table is lent, but for its answer: the length, whether there is room or not. A call of its own, so that a number goes to it in registers.
+#[inline(never)]
 pub fn fit_number(out: &mut [u8], x: u64, pairs: &[u8; 200]) -> usize
     ensures { Fitted (number_by pairs.now x) out.old out.new result }
 {
@@ -216,7 +235,7 @@ fn append_eight(out: &mut [u8], at: usize, x: u32, pairs: &[u8; 200]) -> usize
     at + put_eight(&mut out[at..], x, pairs)
 }
 
-// Eight digits, zeros too.
+// Eight digits, zeros too. Not one function with four: no divisor can be computed of a const argument.
 fn put_eight(out: &mut [u8], x: u32, pairs: &[u8; 200]) -> usize
     requires { (x < 100000000) × (8 ≤ length out.old) }
     ensures { Put (eight_by pairs.now x) out.old out.new result }

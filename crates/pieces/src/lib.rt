@@ -9,8 +9,8 @@ ghost use Rattle.pieces.specs.Pieces.{begun, counted, fed, finished};
 
 use header::{header_of, header_verdict};
 pub use parts::{Body, Entries, FRONT_SIZE, Slots};
-use rows::{Verdict, above, least};
-use trace::{Checked, HEADER_SIZE, MOST_BYTES};
+use rows::Refusal;
+use trace::{HEADER_SIZE, MOST_BYTES, Sound};
 
 // The header's bytes, what has come behind the header, and how many bytes have come in all, 65,537 where there were more.
 #[repr(C)]
@@ -24,11 +24,12 @@ pub struct Pieces {
 fn counted(total: usize, more: usize) -> usize
     ensures { result ≡ counted total more }
 {
-    total + least(more, above(MOST_BYTES + 1, total))
+    total + more.min((MOST_BYTES + 1).saturating_sub(total))
 }
 
 impl Pieces {
     // Before any byte.
+    #[tactic(auto, unfolding(crate::specs::Pieces::begun))]
     pub fn begin() -> Pieces
         ensures { result ≡ begun }
     {
@@ -44,24 +45,23 @@ impl Pieces {
     pub fn feed(self, piece: &[u8]) -> Pieces
         ensures { result ≡ fed self piece.now }
     {
-        let of_header = least(above(HEADER_SIZE, self.total), piece.len());
-        let headed = self.feed_header(&piece[..of_header]);
-        headed.feed_body(&piece[of_header..])
+        let of_header = HEADER_SIZE.saturating_sub(self.total).min(piece.len());
+        let (front, rest) = piece.split_at(of_header);
+        self.feed_header(front).feed_body(rest)
     }
 
     fn feed_header(self, bytes: &[u8]) -> Pieces
         requires { 1 ≤ length bytes.now → self.total + length bytes.now ≤ header_size }
         ensures { result ≡ fed self bytes.now }
     {
-        if bytes.len() == 0 {
+        if bytes.is_empty() {
             return self;
         }
-        let total = self.total;
         let mut header = self.header;
-        words::put_padded(&mut header, total, bytes, bytes.len());
+        words::put_padded(&mut header, self.total, bytes, bytes.len());
         Pieces {
             header,
-            total: total + bytes.len(),
+            total: self.total + bytes.len(),
             body: Body::begin(&header),
         }
     }
@@ -70,26 +70,23 @@ impl Pieces {
         requires { 1 ≤ length bytes.now → header_size ≤ self.total }
         ensures { result ≡ fed self bytes.now }
     {
-        let body = self.body;
-        let mut state = self;
-        state.total = counted(self.total, bytes.len());
-        state.body = body.feed(bytes);
-        state
+        Pieces {
+            total: counted(self.total, bytes.len()),
+            body: self.body.feed(bytes),
+            ..self
+        }
     }
 
     // What the whole check gives on all bytes that came.
-    pub fn finish(self) -> Checked
+    pub fn finish(self) -> Result<Sound, Refusal>
         ensures { result ≡ finished self }
     {
-        let bytes = self.header;
-        let body = self.body;
-        let header = header_of(&bytes);
-        match body.verdict(header_verdict(header, self.total)) {
-            Verdict::Refused(refusal) => Checked::Refused(refusal),
-            Verdict::Passed => Checked::Sound {
-                header,
-                events: body.slots.unused,
-            },
-        }
+        let header = header_of(&self.header);
+        header_verdict(header, self.total)?;
+        self.body.verdict()?;
+        Ok(Sound {
+            header,
+            events: self.body.slots.unused,
+        })
     }
 }

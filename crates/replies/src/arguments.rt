@@ -2,7 +2,7 @@
 use console::{number_at, word_at};
 use events::Reading;
 use naming::Subject;
-use rows::{above, least};
+use trace::Slot;
 use words::Order;
 use writing::{Format, Object};
 
@@ -15,24 +15,31 @@ pub(crate) fn reading_in(arguments: &[u8]) -> Reading {
     }
 }
 
+pub(crate) fn position_in(arguments: &[u8]) -> usize {
+    number_at(arguments, 16, 20) as usize
+}
+
 pub(crate) fn room_in(arguments: &[u8]) -> u32 {
-    word_at(arguments, above(arguments.len(), 4))
+    word_at(arguments, arguments.len().saturating_sub(4))
 }
 
 // The order (a byte), the base, the mask, the name size (16 bits) and the entry count (64 bits).
 pub(crate) fn format_in(arguments: &[u8]) -> Format {
-    let order = if words::byte(arguments, 0, 0) == 0 {
-        Order::Little
-    } else {
-        Order::Big
-    };
     Format {
-        order,
+        order: match words::byte(arguments, 0, 0) {
+            0 => Order::Little,
+            _ => Order::Big,
+        },
         base: word_at(arguments, 1),
         mask: word_at(arguments, 5),
         name_size: words::half(arguments, 9, Order::Little),
         entries: number_at(arguments, 11, 15) as usize,
     }
+}
+
+// A slot's eight words.
+pub(crate) fn slot_in(arguments: &[u8]) -> Slot {
+    walk::slot_at(arguments, 0, Order::Little)
 }
 
 // The type (a byte), the pointer, the two parameters and the two reserved bytes; the name follows.
@@ -49,15 +56,15 @@ pub(crate) fn object_in(arguments: &[u8]) -> Object {
 
 // The name that follows an object's 15 bytes.
 pub(crate) fn name_in(arguments: &[u8]) -> &[u8] {
-    &arguments[least(15, arguments.len())..]
+    arguments.get(15..).unwrap_or(b"")
 }
 
 // A record's: whether it is a thread's (a byte), the id or the pointer, the offset (64 bits), the name's length, the byte that fills it, and the name's front.
 pub(crate) fn subject_in(arguments: &[u8]) -> Subject {
-    if words::byte(arguments, 0, 0) == 0 {
-        return Subject::Event;
+    match words::byte(arguments, 0, 0) {
+        0 => Subject::Event,
+        _ => Subject::Thread,
     }
-    Subject::Thread
 }
 
 pub(crate) fn offset_in(arguments: &[u8]) -> usize {
@@ -66,5 +73,5 @@ pub(crate) fn offset_in(arguments: &[u8]) -> usize {
 
 // The bytes that follow a record's 18.
 pub(crate) fn front_in(arguments: &[u8]) -> &[u8] {
-    &arguments[least(18, arguments.len())..]
+    arguments.get(18..).unwrap_or(b"")
 }

@@ -1,9 +1,7 @@
 -- Rows of the table of refusals, and what an order of checks gives: the first row that is broken.
-use Rattle.std.specs.Prelude.{ℕ, Bool, cond, List, [], ◌∷◌, ◌≡◌, ltb}
+use Rattle.std.specs.Prelude.{ℕ, Bool, cond, List, [], ◌∷◌, ◌≡◌, ltb, Err, Ok, Result}
 use Rattle.rows.specs.Lowest.{lowest}
 use Rattle.rows.specs.declared.Refusal.{Refusal}
-use Rattle.rows.specs.declared.Verdict.{Verdict}
-use Rattle.rows.specs.declared.Verdict.TheVariants.{Passed, Refused}
 
 -- a row of the table: its number, whether it is broken, and the place that it then gives
 pub record Row : Type 0 where
@@ -25,20 +23,20 @@ row_of_lowest n fault count = row_at n (ltb (lowest fault count) count) (lowest 
 abbrev pub refusal : Row → Refusal
 refusal r = record { number = r.number; place = r.place }
 
+-- what checking gives: a refusal, or nothing
+abbrev pub Verdict : Type 0
+Verdict = Result Unit Refusal
+
 -- what rows give in their order: the refusal of the first that is broken
 unfoldable pub first_broken : List Row → Verdict
-first_broken [] = Passed
-first_broken (r ∷ rs) = cond r.broken (Refused (refusal r)) (first_broken rs)
+first_broken [] = Ok tt
+first_broken (r ∷ rs) = cond r.broken (Err (refusal r)) (first_broken rs)
+
+-- what a call answers that checks first: the refusal, or what it gives
+abbrev pub answer_by : {A : Type 0} → Verdict → A → Result A Refusal
+answer_by (Err f) x = Err f
+answer_by (Ok tt) x = Ok x
 
 -- no row is broken
 abbrev pub Accepted : List Row → Type 0
-Accepted rows = first_broken rows ≡ Passed
-
--- the same as the code goes: one row after another, where an earlier refusal stays
-unfoldable pub after_row : Verdict → Row → Verdict
-after_row (Refused f) r = Refused f
-after_row Passed r = cond r.broken (Refused (refusal r)) Passed
-
-abbrev pub after_rows : Verdict → List Row → Verdict
-after_rows v [] = v
-after_rows v (r ∷ rs) = after_rows (after_row v r) rs
+Accepted rows = first_broken rows ≡ Ok tt

@@ -1,34 +1,36 @@
 // A refusal by number and place, rows checked in order, and tests and small sums with both sides worked out, so that a row is code with no branch.
 #![tactic(auto)]
 
-ghost use Rattle.std.specs.Prelude.{◌≡◌, ◌&&◌, ◌||◌, ◌-◌, min};
-ghost use Rattle.rows.specs.Rows.{row_at, after_row};
+ghost use Rattle.std.specs.Prelude.{◌≡◌, ◌&&◌, ◌||◌, ◌-◌, min, [], ◌∷◌};
+ghost use Rattle.rows.specs.Rows.{row_at, first_broken};
 
+use std::fmt;
+
+// By its number, which is the name that the rules give it.
 #[derive(Clone, Copy)]
 pub struct Refusal {
     pub number: u32,
     pub place: usize,
 }
 
-#[derive(Clone, Copy)]
-pub enum Verdict {
-    Passed,
-    Refused(Refusal),
+impl fmt::Display for Refusal {
+    fn fmt<W: fmt::Write>(&self, f: &mut fmt::Formatter<W>) -> fmt::Result {
+        write!(f, "{} {}", self.number, self.place)
+    }
 }
 
-// One row more: an earlier refusal stays.
-pub fn after(earlier: Verdict, number: u32, broken: bool, place: usize) -> Verdict
-    ensures { result ≡ after_row earlier (row_at number broken place) }
+// What checking gives: a refusal, or nothing.
+pub type Verdict = Result<(), Refusal>;
+
+// A row of the table: refused where it is broken.
+#[tactic(auto, using(crate::proofs::Rows::row_keeps, crate::proofs::Rows::row_refuses))]
+pub fn row(number: u32, broken: bool, place: usize) -> Verdict
+    ensures { result ≡ first_broken (row_at number broken place ∷ []) }
 {
-    match earlier {
-        Verdict::Refused(refusal) => Verdict::Refused(refusal),
-        Verdict::Passed => {
-            if broken {
-                Verdict::Refused(Refusal { number, place })
-            } else {
-                Verdict::Passed
-            }
-        }
+    if broken {
+        Err(Refusal { number, place })
+    } else {
+        Ok(())
     }
 }
 
@@ -36,26 +38,26 @@ pub fn after(earlier: Verdict, number: u32, broken: bool, place: usize) -> Verdi
 pub fn either(a: bool, b: bool) -> bool
     ensures { result ≡ (a || b) }
 {
-    if a { true } else { b }
+    a | b
 }
 
 // Whether two tests hold.
 pub fn both(a: bool, b: bool) -> bool
     ensures { result ≡ (a && b) }
 {
-    if a { b } else { false }
+    a & b
 }
 
 // What a has above b, or 0.
 pub fn above(a: usize, b: usize) -> usize
     ensures { result ≡ a - b }
 {
-    if b <= a { a - b } else { 0 }
+    a.saturating_sub(b)
 }
 
 // The smaller of two.
 pub fn least(a: usize, b: usize) -> usize
     ensures { result ≡ min a b }
 {
-    if a < b { a } else { b }
+    a.min(b)
 }

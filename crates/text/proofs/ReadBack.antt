@@ -1,9 +1,9 @@
 -- What is printed reads back: digits to their number, an escaped name to its bytes. So two numbers never print alike, and neither do two names.
+use Rattle.std.specs.Prelude.{None, Option, Some}
 use Prim.Native.Nat.{ℕ, zero, suc, ◌+◌, ◌-◌, ◌*◌, ◌/◌, ◌%◌, ◌≤◌, ◌<◌}
 use mathlib.Core.Bool.{Bool, true, false}
 use mathlib.Core.List.{List, [], ◌∷◌, ◌++◌}
 use mathlib.Core.Logic.{⊎_elim}
-use mathlib.Core.Option.{Option, none, some}
 use mathlib.Core.Path.{◌≡◌, refl, sym, ap, ◌∙◌}
 use native.Mathlib.Omega.{arith}
 use lib.Dec.{ltb}
@@ -76,8 +76,8 @@ unescaped_escaped s all = escaped_back (length (escaped s)) s all (escaped_long 
 -- a name's text reads back to the name, and that of none to none
 pub name_back : (n : Option (List ℕ)) → IsName n → read_name (name n) ≡ n
 unfolding read_name name is_quoted
-name_back none all = refl
-name_back (some s) all = rw (quotes_seen (escaped s), inside_quotes (escaped s), unescaped_escaped s all)
+name_back None all = refl
+name_back (Some s) all = rw (quotes_seen (escaped s), inside_quotes (escaped s), unescaped_escaped s all)
 
 -- two names never print alike
 pub names_differ : (m n : Option (List ℕ)) → IsName m → IsName n → name m ≡ name n → m ≡ n

@@ -7,89 +7,65 @@
 
 ghost use Rattle.std.specs.Prelude.{◌≤◌, ◌<◌, ◌^◌};
 
-use console::{
-    count_changed, fail, number_at, open_file, print_front, print_space, read_some, word_at,
-};
+use console::{count_changed, fail, number_at, open_file, print_bytes, read_some, word_at};
 use std::fs::File;
-use text::{Context, Info, Line, Title};
+use text::{Context, Info, Line};
 use words::Order;
+
+// The text that a printer answered with its length.
+fn print_text(rt: &HostRuntime, out: &[u8], length: usize) {
+    if let Some(text) = out.get(..length) {
+        print_bytes(rt, text);
+    }
+}
 
 fn print_number(rt: &HostRuntime, x: u64) {
     let mut out = [0u8; 22];
-    let n = numbers::put_number(&mut out, x);
-    print_front(rt, &out, n);
-    print_space(rt, numbers::number_length(x) as u64);
-    print_space(rt, doubles::through_double(x));
-    let _ = rt.write_all(b"\n");
+    let length = numbers::put_number(&mut out, x);
+    print_text(rt, &out, length);
+    let _ = println!(rt;
+        " {} {}",
+        numbers::number_length(x),
+        doubles::through_double(x)
+    );
 }
 
-fn one_less(n: usize) -> usize {
-    if n == 0 {
-        return 0;
-    }
-    n - 1
-}
-
-// The line into so much room.
+// The line into so much room, where the space has it.
 fn put_within(
     out: &mut [u8],
     room: usize,
     line: Line,
-    title: Title,
-    called: &[u8],
-    named: bool,
-    bytes: &[u8],
-) -> usize {
-    if room > out.len() {
-        return 0;
-    }
-    lines::put_line(&mut out[..room], line, title, called, named, bytes)
+    title: Option<Option<&[u8]>>,
+    name: Option<&[u8]>,
+) -> Option<usize> {
+    let out = out.get_mut(..room)?;
+    Some(lines::put_line(out, line, title, name))
 }
 
-// The line's length, what one byte less of room takes and changes, and what just enough takes and changes past it.
-fn print_close(
-    rt: &HostRuntime,
-    line: Line,
-    title: Title,
-    called: &[u8],
-    named: bool,
-    bytes: &[u8],
-) {
+// The line's length, what one byte less of room takes and changes, and what just enough takes and changes past it. No room takes 0.
+fn print_close(rt: &HostRuntime, line: Line, title: Option<Option<&[u8]>>, name: Option<&[u8]>) {
     let mut out = [b'.'; 4096];
-    let size = lines::line_length(line, title, called, named, bytes);
-    let short = put_within(&mut out, one_less(size), line, title, called, named, bytes);
-    let _ = rt.print(size);
-    print_space(rt, short as u64);
-    print_space(rt, count_changed(&out, 0) as u64);
-    print_space(
-        rt,
-        put_within(&mut out, size, line, title, called, named, bytes) as u64,
-    );
-    print_space(rt, count_changed(&out, size) as u64);
+    let size = lines::line_length(line, title, name);
+    let short = put_within(&mut out, size.saturating_sub(1), line, title, name).unwrap_or(0);
+    let _ = print!(rt; "{size} {short} {}", count_changed(&out, 0));
+    let full = put_within(&mut out, size, line, title, name).unwrap_or(0);
+    let _ = print!(rt; " {full} {}", count_changed(&out, size));
 }
 
 // The line, and how many bytes changed past it.
-fn print_line(
-    rt: &HostRuntime,
-    line: Line,
-    title: Title,
-    called: &[u8],
-    named: bool,
-    bytes: &[u8],
-) {
+fn print_line(rt: &HostRuntime, line: Line, title: Option<Option<&[u8]>>, name: Option<&[u8]>) {
     let mut out = [b'.'; 4096];
-    let n = lines::put_line(&mut out, line, title, called, named, bytes);
-    print_front(rt, &out, n);
-    print_close(rt, line, title, called, named, bytes);
-    print_space(rt, count_changed(&out, n) as u64);
-    let _ = rt.write_all(b"\n");
+    let length = lines::put_line(&mut out, line, title, name);
+    print_text(rt, &out, length);
+    print_close(rt, line, title, name);
+    let _ = println!(rt; " {}", count_changed(&out, length));
 }
 
-fn title_of(number: u8) -> Title {
+fn title_of(number: u8, name: &[u8]) -> Option<Option<&[u8]>> {
     match number {
-        0 => Title::Absent,
-        1 => Title::Nameless,
-        _ => Title::Named,
+        0 => None,
+        1 => Some(None),
+        _ => Some(Some(name)),
     }
 }
 
@@ -111,18 +87,16 @@ fn info_in(case: &[u8]) -> Info {
 }
 
 fn line_in(case: &[u8], gone: bool) -> Line {
-    let by = context_of(words::byte(case, 33, 0));
-    let info = info_in(case);
     Line {
         key: number_at(case, 1, 5),
         ticks: number_at(case, 9, 13),
         us: number_at(case, 17, 21),
         id: word_at(case, 25),
         ptr: word_at(case, 29),
-        by: by,
+        by: context_of(words::byte(case, 33, 0)),
         gone,
         field: word_at(case, 34),
-        info: info,
+        info: info_in(case),
     }
 }
 
@@ -130,15 +104,15 @@ fn line_in(case: &[u8], gone: bool) -> Line {
 fn print_line_case(rt: &HostRuntime, case: &[u8]) -> usize
     ensures { (1 ≤ result) × (result < 2 ^ 18) }
 {
-    let title = title_of(words::byte(case, 54, 0));
     let middle = 57 + words::half(case, 55, Order::Little) as usize;
-    let named = words::byte(case, middle, 0) != 0;
+    let is_named = words::byte(case, middle, 0) != 0;
     let gone = words::byte(case, middle, 1) != 0;
     let start = middle + 4;
     let end = start + words::half(case, middle + 2, Order::Little) as usize;
     if end <= case.len() {
         let line = line_in(case, gone);
-        print_line(rt, line, title, &case[57..middle], named, &case[start..end]);
+        let title = title_of(words::byte(case, 54, 0), &case[57..middle]);
+        print_line(rt, line, title, is_named.then_some(&case[start..end]));
     }
     end
 }
@@ -156,6 +130,7 @@ fn print_case(rt: &HostRuntime, case: &[u8]) -> usize
 
 fn print_cases(rt: &HostRuntime, cases: &[u8]) {
     let mut at = 0;
+    // No range counts the cases: where one ends is read from it.
     while at < cases.len() {
         at += print_case(rt, &cases[at..]);
     }
@@ -164,8 +139,8 @@ fn print_cases(rt: &HostRuntime, cases: &[u8]) {
 // The cases of an open file, so far as there is room for them.
 fn print_file(rt: &HostRuntime, file: &mut File) {
     let mut space = [0u8; 131072];
-    let n = read_some(file, &mut space, 131072);
-    print_cases(rt, &space[..n]);
+    let length = read_some(file, &mut space, 131072);
+    print_cases(rt, &space[..length]);
 }
 
 fn main(rt: HostRuntime) {

@@ -23,11 +23,11 @@ loop-done-preserved g c =
     let from = c.loop-done.done in
     let room = length c.loop-done.bytes - from in
     let within = c.loop-done.invariant.within in
-    let more = c.read_once-more.result in
-    let part = slice_range-put_mid from room more c.loop-done.bytes c.read_once-more.new.bytes within c.read_once-more.ensures.within.0 in
-    let joined = take_split from (from + more) c.loop-done.bytes (put_mid from room c.loop-done.bytes c.read_once-more.new.bytes) (omega arith) (take-put_mid_below _ _ _ _ _ (le_refl _) within) in
+    let more = c.in-Ok.more in
+    let part = slice_range-put_mid from room more c.loop-done.bytes c.read.new.buf within c.in-Ok.ensures.bound.0 in
+    let joined = take_split from (from + more) c.loop-done.bytes (put_mid from room c.loop-done.bytes c.read.new.buf) (omega arith) (take-put_mid_below _ _ _ _ _ (le_refl _) within) in
     record {
       same = search rules;
       within = search rules;
-      came = subst (Consumes _ _) (ap (λ l. take from c.loop-done.bytes ++ l) (sym part) ∙ joined) (Consumes-trans _ _ _ _ _ c.loop-done.invariant.came c.read_once-more.ensures.came);
+      came = subst (Consumes _ _) (ap (λ l. take from c.loop-done.bytes ++ l) (sym part) ∙ joined) (Consumes-trans _ _ _ _ _ c.loop-done.invariant.came c.in-Ok.ensures.bytes.0);
     }

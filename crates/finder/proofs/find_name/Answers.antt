@@ -1,24 +1,26 @@
 -- `finder::find_name` meets its contract, by the verdict.
+use Rattle.std.specs.Prelude.{Err, Ok, option_copied}
 use mathlib.Core.Path.{◌≡◌, sym, ◌∙◌}
+use native.Mathlib.Omega.{arith}
+use Rattle.naming.specs.Finding.{find_name_with, finding_rows}
 use Rattle.rows.specs.Rows.{first_broken}
-use Rattle.rows.specs.declared.Verdict.TheVariants.{Passed, Refused}
 use Rattle.trace.specs.Layout.{header_of}
-use Rattle.trace.specs.Names.{find_name}
-use Rattle.trace.specs.Table.{registry_rows}
 use Rattle.finder.proofs.find_name.Goals as goal
 
-pub returns-in-Refused : goal.returns-in-Refused
-unfolding find_name
-returns-in-Refused c =
-    let s = c.args.dump.now in
-    let verdict : first_broken (registry_rows s (header_of s)) ≡ Refused c.in-Refused.refusal =
-    rw c.header_of-header.ensures at (sym c.registry_verdict.ensures ∙ c.in-Refused.is) in
-    rw verdict
+pub returns-in_err-finding_verdict : goal.returns-in_err-finding_verdict
+unfolding find_name_with
+returns-in_err-finding_verdict c =
+    let a = c.args in
+    let f = c.in_err-finding_verdict.field-0.0 in
+    let same : c.from_residual.result ≡ Err f = grind arith in
+    let verdict : first_broken (finding_rows (option_copied a.names) a.dump.now (header_of a.dump.now)) ≡ Err f =
+    rw c.header_of-header.ensures at (sym c.finding_verdict.ensures ∙ c.in_err-finding_verdict.was) in
+    rw verdict same
 
-pub returns-in-Passed : goal.returns-in-Passed
-unfolding find_name
-returns-in-Passed c =
-    let s = c.args.dump.now in
-    let verdict : first_broken (registry_rows s (header_of s)) ≡ Passed =
-    rw c.header_of-header.ensures at (sym c.registry_verdict.ensures ∙ c.in-Passed.is) in
-    rw (verdict, c.name_of.ensures, c.header_of-header.ensures)
+pub returns : goal.returns
+unfolding find_name_with
+returns c =
+    let a = c.args in
+    let verdict : first_broken (finding_rows (option_copied a.names) a.dump.now (header_of a.dump.now)) ≡ Ok tt =
+    rw c.header_of-header.ensures at (sym c.finding_verdict.ensures ∙ c.in_ok-finding_verdict.was) in
+    rw (verdict, c.name_with.ensures, c.header_of-header.ensures)

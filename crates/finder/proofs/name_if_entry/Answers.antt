@@ -1,6 +1,8 @@
 -- `finder::name_if_entry` meets its contract: no registry has more entries than 32 bits count.
+use Rattle.std.specs.Prelude.{Some}
 use Prim.Native.Nat.{◌-◌}
 use native.Mathlib.Nat.{div-le_self}
+use mathlib.Core.Path.{ap}
 use native.Mathlib.Omega.{arith}
 use borrow.Author.Tests.{lt-ltb, le-ltb}
 use Rattle.words.proofs.Circles.{minus_below}
@@ -18,7 +20,7 @@ unfolding name_if_entry
 returns-then-entry-geometry_of c =
     let a = c.args in
     let within = rw c.geometry_of.ensures at c.if-entry-geometry_of.true in
-    rw (lt-ltb a.entry (entry_count a.header) within) c.entry_name.ensures
+    rw (lt-ltb a.entry (entry_count a.header) within) (ap Some c.entry_name.ensures)
 
 pub returns : goal.returns
 unfolding name_if_entry

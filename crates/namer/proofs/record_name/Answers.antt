@@ -1,5 +1,6 @@
 -- `namer::record_name` meets its contract, by where the search for the record ends.
-use mathlib.Core.Path.{sym, ◌∙◌}
+use Rattle.std.specs.Prelude.{Some}
+use mathlib.Core.Path.{ap, sym, ◌∙◌}
 use native.Mathlib.Omega.{arith}
 use lib.ListN.{length}
 use borrow.Author.Tests.{le-ltb, lt-ltb}
@@ -10,7 +11,7 @@ pub returns-then-at-names : goal.returns-then-at-names
 returns-then-at-names c =
     let a = c.args in
     let there = rw c.first_record-at.ensures at (lt-ltb c.first_record-at.result (length a.names.now) c.if-at-names.true) in
-    rw c.first_record-at.ensures at c.name_from.ensures ∙ sym (name_there a.names.now a.subject a.number there)
+    ap Some (rw c.first_record-at.ensures at c.name_from.ensures) ∙ sym (name_there a.names.now a.subject a.number there)
 
 pub returns : goal.returns
 returns c =

@@ -7,27 +7,8 @@ use Rattle.text.specs.Names.{name}
 use Rattle.text.specs.Numbers.{quoted}
 use Rattle.names.proofs.put_quoted.Goals as goal
 
-pub slice_bounds-put_escaped-count : goal.slice_bounds-put_escaped-count
-slice_bounds-put_escaped-count c = omega (arith, at_most _ c.put_bytes-at.ensures, count_name c.args.bytes.now)
-
-pub slice_bounds-put_escaped-start : goal.slice_bounds-put_escaped-start
-slice_bounds-put_escaped-start c = omega (arith, at_most _ c.put_bytes-at.ensures, count_name c.args.bytes.now)
-
 pub put_escaped-at-requires : goal.put_escaped-at-requires
 put_escaped-at-requires c = omega (arith, at_most _ c.put_bytes-at.ensures, count_name c.args.bytes.now)
-
-pub overflow_add-at : goal.overflow_add-at
-overflow_add-at c = omega (arith, at_most _ c.put_bytes-at.ensures, count_name c.args.bytes.now)
-
-pub slice_bounds-put_bytes-count : goal.slice_bounds-put_bytes-count
-slice_bounds-put_bytes-count c = omega (arith, at_most _ c.put_bytes-at.ensures, count_name c.args.bytes.now)
-
-pub slice_bounds-put_bytes-start : goal.slice_bounds-put_bytes-start
-slice_bounds-put_bytes-start c = omega (arith, at_most _ c.put_bytes-at.ensures, count_name c.args.bytes.now)
-
-pub overflow_add-result : goal.overflow_add-result
-overflow_add-result c =
-    omega (arith, at_most _ c.put_bytes-at.ensures, at_most _ c.put_bytes.ensures, count_name c.args.bytes.now)
 
 pub returns : goal.returns
 unfolding name quoted

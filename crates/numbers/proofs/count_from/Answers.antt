@@ -19,32 +19,17 @@ returns-then-x-limit c =
     let known = c.requires in
     sym (count_is a.count a.limit a.x known.power known.some known.low c.if-x-limit.true)
 
-pub overflow_mul-limit : goal.overflow_mul-limit
-overflow_mul-limit c = omega arith
-
-pub overflow_add-result : goal.overflow_add-result
-overflow_add-result c = omega arith
-
 pub returns-then-x-limit-2 : goal.returns-then-x-limit-2
 returns-then-x-limit-2 c =
     let a = c.args in
     let known = c.requires in
     later 1 a.count a.limit a.x known.power known.some (omega arith) c.if-x-limit-2.true
 
-pub overflow_mul-limit-2 : goal.overflow_mul-limit-2
-overflow_mul-limit-2 c = omega arith
-
-pub overflow_add-result-then-x-limit-3 : goal.overflow_add-result-then-x-limit-3
-overflow_add-result-then-x-limit-3 c = omega arith
-
 pub returns-then-x-limit-3 : goal.returns-then-x-limit-3
 returns-then-x-limit-3 c =
     let a = c.args in
     let known = c.requires in
     later 2 a.count a.limit a.x known.power known.some (omega arith) c.if-x-limit-3.true
-
-pub overflow_add-result-2 : goal.overflow_add-result-2
-overflow_add-result-2 c = omega arith
 
 pub returns : goal.returns
 returns c =

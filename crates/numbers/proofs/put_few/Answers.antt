@@ -15,17 +15,8 @@ counted c = let a = c.args in count_hundred a.pairs.now a.x c.if-x-lt100.false
 pub put_short-at-requires : goal.put_short-at-requires
 put_short-at-requires c = (omega arith, omega (arith, counted (goal.at.put_short-at-requires c).Else-x-lt100))
 
-pub slice_bounds-put_pair-count : goal.slice_bounds-put_pair-count
-slice_bounds-put_pair-count c = omega (arith, counted (goal.at.slice_bounds-put_pair-count c).Else-x-lt100)
-
-pub slice_bounds-put_pair-start : goal.slice_bounds-put_pair-start
-slice_bounds-put_pair-start c = omega (arith, counted (goal.at.slice_bounds-put_pair-start c).Else-x-lt100)
-
 pub put_pair-requires : goal.put_pair-requires
 put_pair-requires c = omega (arith, counted (goal.at.put_pair-requires c).Else-x-lt100)
-
-pub overflow_add-result : goal.overflow_add-result
-overflow_add-result c = omega (arith, counted (goal.at.overflow_add-result c).Else-x-lt100)
 
 pub returns : goal.returns
 returns c =

@@ -3,7 +3,7 @@ use Prim.Native.Nat.{◌+◌, ◌-◌}
 use mathlib.Core.List.{◌++◌}
 use mathlib.Core.Path.{◌≡◌}
 use native.Mathlib.Omega.{arith}
-use lib.ListN.{length, length-drop, length-set, length-take, set}
+use lib.ListN.{length, set}
 use borrow.Rule.Slice.PartMut.{put_mid}
 use Rattle.text.proofs.Output.{byte_behind, on_from, put_same, stores}
 use Rattle.text.specs.Ascii.{ascii}
@@ -22,21 +22,6 @@ opened c = let old = c.args.out.now in on_from _ _ (stores (ascii "\"") old (ome
 same : (c : After-slice_known-2-1) → let old = c.args.out.now in length (put_mid 1 (length (set old 0 34) - 1) (set old 0 34) c.put_long-at.new.out) ≡ length old
 same c = put_same (opened c) (omega (arith, (opened c).count))
 
-pub slice_bounds-put_long-count : goal.slice_bounds-put_long-count
-slice_bounds-put_long-count c = simp length-set (omega arith)
-
-pub slice_bounds-put_long-start : goal.slice_bounds-put_long-start
-slice_bounds-put_long-start c = simp length-set (omega arith)
-
-pub put_long-at-requires : goal.put_long-at-requires
-put_long-at-requires c = (omega arith, simp (length-take, length-drop, length-set) (omega arith))
-
-pub bounds-out-at : goal.bounds-out-at
-bounds-out-at c = omega (arith, same c)
-
 pub returns : goal.returns
 unfolding quoted
 returns c = byte_behind 34 (opened c) (omega (arith, same c))
-
-pub shape_of-out : goal.shape_of-out
-shape_of-out c = put_same (returns c) (omega (arith, (opened c).count))

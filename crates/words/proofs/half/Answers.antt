@@ -1,8 +1,14 @@
--- `words::half` meets its contract: the bytes read are those of `bytes_at`.
-use Rattle.words.specs.Words.{number_at}
-use Rattle.words.proofs.Places.{read_two}
+-- `words::half` meets its contract: the number of the bytes, the lowest first, is read in its order.
+use Rattle.std.proofs.Common.{◌∙◌}
+use Rattle.words.proofs.Chunks.{two_read}
 use Rattle.words.proofs.half.Goals as goal
 
+pub returns-in-Some : goal.returns-in-Some
+returns-in-Some c =
+    let a = c.args in
+    c.half_in_order.ensures ∙ two_read a.order c.in-Some.two.now a.bytes.now a.at (λ i. (c.type_inv.bytes i).fits) c.from_le_bytes.result c.from_le_bytes.ensures c.in-Some.ensures
+
 pub returns : goal.returns
-unfolding number_at
-returns c = rw read_two (rw (c.byte-2.ensures, c.byte.ensures) at c.half_of_bytes.ensures)
+returns c =
+    let a = c.args in
+    c.half_in_order-2.ensures ∙ two_read a.order c.padded.result a.bytes.now a.at (λ i. (c.type_inv.bytes i).fits) c.from_le_bytes-2.result c.from_le_bytes-2.ensures c.padded.ensures

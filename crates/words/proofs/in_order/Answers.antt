@@ -6,7 +6,7 @@ use Rattle.words.proofs.in_order.Goals as goal
 
 pub returns-in-Big : goal.returns-in-Big
 unfolding number_bytes lowest_first split joined
-returns-in-Big c = rw c.in-Big.is (omega (arith, c.lowest_first.ensures))
+returns-in-Big c = rw c.in-Big.is (omega (arith, c.swap_bytes.ensures))
 
 pub returns-in-Little : goal.returns-in-Little
 unfolding number_bytes lowest_first

@@ -1,9 +1,9 @@
 -- `listing::records::find_all` meets its contract. The loop's invariant: where the records before `at` start is noted, and all links lead nowhere.
-use Prim.Native.Nat.{ℕ, ◌<◌}
-use mathlib.Core.Path.{ap, refl, sym, ◌∙◌}
+use Prim.Native.Nat.{◌<◌}
+use mathlib.Core.Path.{ap, refl}
 use native.Mathlib.Numerals.{add-one}
 use native.Mathlib.Omega.{arith}
-use lib.ListN.{length, length-replicate}
+use lib.ListN.{length}
 use Rattle.naming.specs.Records.{end_at, record_at}
 use Rattle.listing.proofs.RecordIndex.{found_all, found_more, found_none, record_few}
 use Rattle.listing.proofs.records.find_all.Goals as goal
@@ -27,10 +27,10 @@ pub offset_bounds-records-i : goal.offset_bounds-records-i
 offset_bounds-records-i c = omega (arith, few c)
 
 pub bounds-records-i : goal.bounds-records-i
-bounds-records-i c = omega (arith, few c, c.loop-at.invariant.1.starts.size)
+bounds-records-i c = omega (arith, few (goal.at.bounds-records-i c).In-loop-at)
 
 pub overflow_add-i : goal.overflow_add-i
-overflow_add-i c = omega (arith, few c)
+overflow_add-i c = omega (arith, few (goal.at.overflow_add-i c).In-loop-at)
 
 pub overflow_add-at : goal.overflow_add-at
 overflow_add-at c = omega (arith, c.loop-at-test.true, c.requires.0)
@@ -47,9 +47,6 @@ loop-at-preserved c =
     let turn = c.loop-at in
     let names = c.args.names.now in
     (rw (add-one, c.half.ensures) (ap (end_at names) turn.invariant.0), rw (add-one, turn.invariant.0) (found_more names c.requires.0 turn.i turn.records (inside (goal.at.loop-at-preserved c).In-loop-at) turn.invariant.1))
-
-pub shape_of-records : goal.shape_of-records
-shape_of-records c = c.loop-at.invariant.1.starts.size ∙ rw c.requires.1 (sym (length-replicate {A = ℕ} 36864 65535))
 
 pub returns : goal.returns
 returns c =

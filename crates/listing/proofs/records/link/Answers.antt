@@ -1,8 +1,12 @@
 -- `listing::records::link` meets its contract: a record that names something is linked before the one to which its place led.
-use Prim.Native.Nat.{◌<◌}
-use mathlib.Core.Path.{◌≡◌, sym, ◌∙◌}
+use Prim.Native.Nat.{ℕ, ◌<◌}
+use borrow.Author.Tests.{ne_eqb}
+use lib.Dec.{eqb}
+use mathlib.Core.Bool.{true, false, ◌||◌}
+use mathlib.Core.Logic.{◌⊎◌, inl, inr}
+use mathlib.Core.Path.{◌≡◌}
 use native.Mathlib.Omega.{arith}
-use lib.ListN.{get_or, length, length-set}
+use lib.ListN.{get_or, length}
 use Rattle.naming.proofs.Records.{inside_count}
 use Rattle.naming.specs.Records.{record_at}
 use Rattle.listing.proofs.RecordIndex.{record_linked, record_none}
@@ -22,20 +26,22 @@ overflow_cast-at c = omega (arith, inside (goal.at.overflow_cast-at c).Start)
 pub overflow_add-at : goal.overflow_add-at
 overflow_add-at c = omega (arith, inside (goal.at.overflow_add-at c).Start)
 
-pub overflow_add-at-then-either : goal.overflow_add-at-then-either
-overflow_add-at-then-either c = omega (arith, inside (goal.at.overflow_add-at-then-either c).Start)
+-- its kind is one of the two
+names : (kind : ℕ) → (kind ≡ 1) ⊎ ((kind ≡ 1 → ⊥) × (kind ≡ 2)) → (eqb kind 1 || eqb kind 2) ≡ true
+names kind (inl one) = rw one
+names kind (inr other) = rw other.1
 
-pub bounds-records-place-then-either : goal.bounds-records-place-then-either
-bounds-records-place-then-either c = rw length-set (omega (arith, c.place_of-place.ensures.1, c.requires.1.found.size))
-
-pub returns-then-either : goal.returns-then-either
-returns-then-either c =
+pub returns-then-kind-eq1 : goal.returns-then-kind-eq1
+returns-then-kind-eq1 c =
     let a = c.args in
+    let at = starts (goal.at.returns-then-kind-eq1 c).Start in
     record_linked a.names.now a.i a.records.now c.requires.0 c.requires.1 c.place_of-place.result
-    (rw (c.word.ensures, c.half-kind.ensures, starts (goal.at.returns-then-either c).Start) at c.place_of-place.ensures.0) c.place_of-place.ensures.1
-    (rw (c.half-kind.ensures, starts (goal.at.returns-then-either c).Start) at (sym c.either.ensures ∙ c.if-either.true))
+    (rw (c.word.ensures, c.half-kind.ensures, at) at c.place_of-place.ensures.0) c.place_of-place.ensures.1
+    (rw (c.half-kind.ensures, at) at (names c.half-kind.result c.then-kind-eq1.either))
 
-pub returns-else-either : goal.returns-else-either
-returns-else-either c =
+pub returns-else-thread : goal.returns-else-thread
+returns-else-thread c =
     let a = c.args in
-    record_none a.names.now a.i a.records.now c.requires.0 c.requires.1 (rw (c.half-kind.ensures, starts (goal.at.returns-else-either c).Start) at (sym c.either.ensures ∙ c.if-either.false))
+    let kind = c.half-kind.result in
+    let none : (eqb kind 1 || eqb kind 2) ≡ false = rw (ne_eqb kind 1 c.if-kind-eq1.false, ne_eqb kind 2 c.if-thread.false) in
+    record_none a.names.now a.i a.records.now c.requires.0 c.requires.1 (rw (c.half-kind.ensures, starts (goal.at.returns-else-thread c).Start) at none)

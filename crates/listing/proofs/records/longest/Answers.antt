@@ -1,5 +1,6 @@
 -- `listing::records::longest` meets its contract. The loop's invariant: no record before `at` is longer than `most`.
-use Prim.Native.Nat.{ℕ, suc, ◌+◌, ◌^◌, ◌≤◌, ◌<◌}
+use Rattle.std.specs.Ordering.{nat_cmp, ord_max}
+use Prim.Native.Nat.{ℕ, suc, ◌^◌, ◌≤◌, ◌<◌}
 use mathlib.Core.List.{List}
 use mathlib.Core.Path.{◌≡◌, ap, refl}
 use native.Mathlib.Decide.{ℕ_discrete}
@@ -28,9 +29,6 @@ pub loop-at-init : goal.loop-at-init
 unfolding record_at
 loop-at-init c = record { index = 0; starts = refl; small = omega arith; none-longer = λ k below. absurd (omega arith) }
 
-pub overflow_add-most : goal.overflow_add-most
-overflow_add-most c = omega (arith, c.loop-at.invariant.small, c.above-most.ensures)
-
 pub overflow_add-at : goal.overflow_add-at
 overflow_add-at c = omega (arith, c.loop-at-test.true, c.requires)
 
@@ -40,13 +38,16 @@ overflow_add-at-in-loop-at c = omega (arith, c.loop-at-test.true, c.requires)
 pub loop-at-smaller : goal.loop-at-smaller
 loop-at-smaller c = omega (arith, c.loop-at-test.true)
 
+longer : (a b : ℕ) → (a ≤ ord_max nat_cmp a b) × (b ≤ ord_max nat_cmp a b) × ((n : ℕ) → a < n → b < n → ord_max nat_cmp a b < n)
+longer a b = grind arith
+
 pub loop-at-preserved : goal.loop-at-preserved
 loop-at-preserved c =
     let turn = c.loop-at in
-    let names = c.args.names.now in
     let length = c.half-length in
-    rw length.ensures
-    (onward names turn.at turn.most (turn.most + c.above-most.result) length.result turn.invariant length.ensures (omega arith) (omega (arith, c.above-most.ensures)) (omega (arith, c.above-most.ensures, turn.invariant.small)))
+    let most = longer turn.most length.result in
+    rw (length.ensures, c.max-most.ensures)
+    (onward c.args.names.now turn.at turn.most _ length.result turn.invariant length.ensures most.0 most.1 (most.2 (2 ^ 16) turn.invariant.small (omega (arith, length.type_inv))))
 
 pub returns : goal.returns
 returns c =

@@ -1,30 +1,30 @@
 -- `pieces::Pieces::finish` meets its contract: rows 11 to 13 follow those of the header.
-use mathlib.Core.Path.{◌∙◌, ◌≡◌, sym}
-use Rattle.rows.proofs.Rows.{in_order}
-use Rattle.rows.specs.Rows.{first_broken}
-use Rattle.rows.specs.declared.Verdict.TheVariants.{Passed, Refused}
+use Rattle.std.proofs.Common.{rules}
+use mathlib.Core.Path.{sym, ◌∙◌}
+use Rattle.rows.proofs.Rows.{then_refused, then_rest}
 use Rattle.trace.specs.Layout.{header_of}
 use Rattle.trace.specs.Table.{header_rows}
 use Rattle.pieces.specs.Body.{body_rows}
-use Rattle.pieces.specs.Pieces.{finish_rows, finished}
+use Rattle.pieces.specs.Pieces.{finished}
 use Rattle.pieces.proofs.Pieces.finish.Goals as goal
 
-pub returns-in-Refused : goal.returns-in-Refused
+pub returns-in_err-header_verdict : goal.returns-in_err-header_verdict
 unfolding finished
-returns-in-Refused c =
+returns-in_err-header_verdict c =
     let p = c.args.self in
-    let said : first_broken (finish_rows p) ≡ Refused c.in-Refused.refusal =
-    sym (in_order (header_rows (header_of p.header) p.total) (body_rows p.body))
-    ∙ rw (c.header_verdict.ensures, c.header_of-header.ensures) at (sym c.verdict.ensures)
-    ∙ c.in-Refused.is in
-    rw said
+    let refused = rw c.header_of-header.ensures at (sym c.header_verdict.ensures ∙ c.in_err-header_verdict.was) in
+    rw (← then_refused (header_rows (header_of p.header) p.total) (body_rows p.body) _ refused) (search rules)
 
-pub returns-in-Passed : goal.returns-in-Passed
+pub returns-in_err-verdict : goal.returns-in_err-verdict
 unfolding finished
-returns-in-Passed c =
+returns-in_err-verdict c =
     let p = c.args.self in
-    let said : first_broken (finish_rows p) ≡ Passed =
-    sym (in_order (header_rows (header_of p.header) p.total) (body_rows p.body))
-    ∙ rw (c.header_verdict.ensures, c.header_of-header.ensures) at (sym c.verdict.ensures)
-    ∙ c.in-Passed.is in
-    rw (said, c.header_of-header.ensures)
+    let passed = rw c.header_of-header.ensures at (sym c.header_verdict.ensures ∙ c.in_ok-header_verdict.was) in
+    rw (← then_rest (header_rows (header_of p.header) p.total) (body_rows p.body) passed, ← c.verdict.ensures, c.in_err-verdict.was) (search rules)
+
+pub returns : goal.returns
+unfolding finished
+returns c =
+    let p = c.args.self in
+    let passed = rw c.header_of-header.ensures at (sym c.header_verdict.ensures ∙ c.in_ok-header_verdict.was) in
+    rw (← then_rest (header_rows (header_of p.header) p.total) (body_rows p.body) passed, ← c.verdict.ensures, c.in_ok-verdict.was, c.header_of-header.ensures)

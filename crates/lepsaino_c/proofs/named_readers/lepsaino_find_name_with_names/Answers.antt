@@ -1,7 +1,0 @@
--- `lepsaino_c::named_readers::lepsaino_find_name_with_names` meets its contract: it hands on, and the answer is told as numbers.
-use Rattle.lepsaino_c.specs.Answers.{name_answer}
-use mathlib.Core.Path.{◌∙◌, ap}
-use Rattle.lepsaino_c.proofs.named_readers.lepsaino_find_name_with_names.Goals as goal
-
-pub returns : goal.returns
-returns c = c.of_found.ensures ∙ ap name_answer c.find_name_with_names.ensures

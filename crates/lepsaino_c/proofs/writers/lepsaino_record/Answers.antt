@@ -1,7 +1,0 @@
--- `lepsaino_c::writers::lepsaino_record` meets its contract: it hands on, and the answer is told as numbers.
-use Rattle.lepsaino_c.specs.Answers.{outcome_answer}
-use mathlib.Core.Path.{◌∙◌, ap}
-use Rattle.lepsaino_c.proofs.writers.lepsaino_record.Goals as goal
-
-pub returns : goal.returns
-returns c = (c.of_outcome.ensures ∙ ap outcome_answer c.«record».ensures.0, c.«record».ensures.1)
