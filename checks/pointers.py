@@ -131,6 +131,33 @@ WRONG_GIVING = [
     ("a constant from outside", "@static.1 = private unnamed_addr constant [0 x i8] zeroinitializer", "@static.1 = external constant [0 x i8]"),
     ("a constant of numbers of another width", "constant [0 x i8] zeroinitializer, align 1", "constant [1 x i64] zeroinitializer, align 8"),
 ]
+# One function says how far apart two parts lie, as the standard library's copy asks.
+APART = """\
+define internal noundef i64 @"apart"(ptr noundef %a0, ptr noundef %a1) #0 {
+start:
+  %r0 = ptrtoaddr ptr %a0 to i64
+  %r1 = ptrtoaddr ptr %a1 to i64
+  %r2 = sub i64 %r0, %r1
+  ret i64 %r2
+}
+"""
+NARROWED_APART = [
+    ("%r0 = ptrtoaddr", "%r0 = ptrtoint"),
+    ("%r1 = ptrtoaddr", "%r1 = ptrtoint"),
+]
+WRONG_APART = [
+    ("an address given back", "ret i64 %r2", "ret i64 %r1"),
+    ("addresses compared", "ret i64 %r2", "%r3 = icmp ult i64 %r0, %r1\n  ret i64 %r2"),
+    ("an address less a number", "sub i64 %r0, %r1", "sub i64 %r0, 8"),
+    ("a number less an address", "sub i64 %r0, %r1", "sub i64 8, %r1"),
+    ("addresses added up", "sub i64 %r0", "add i64 %r0"),
+    ("an address cut to 32 bits", "ret i64 %r2", "%r3 = trunc i64 %r0 to i32\n  ret i64 %r2"),
+    ("an address stored", "ret i64 %r2", "store i64 %r1, ptr %a0, align 8\n  ret i64 %r2"),
+    ("an address as a step", "ret i64 %r2", "%r3 = getelementptr i8, ptr %a0, i64 %r1\n  ret i64 %r2"),
+    ("an address handed on", "ret i64 %r2", "%r3 = call i64 @\"apart\"(ptr %a0, i64 %r1)\n  ret i64 %r2"),
+    ("an address used before it is taken", "  %r1 = ptrtoaddr ptr %a1 to i64\n  %r2 = sub i64 %r0, %r1\n", "  %r2 = add i64 %r1, 8\n  %r1 = ptrtoaddr ptr %a1 to i64\n"),
+    ("an address of 32 bits", "ptrtoaddr ptr %a0 to i64", "ptrtoaddr ptr %a0 to i32"),
+]
 
 
 def audited(text):
@@ -143,7 +170,7 @@ def audited(text):
 
 
 def main():
-    for sound, narrowed, wrong in ((SOUND, NARROWED, WRONG), (GIVING, NARROWED_GIVING, WRONG_GIVING)):
+    for sound, narrowed, wrong in ((SOUND, NARROWED, WRONG), (GIVING, NARROWED_GIVING, WRONG_GIVING), (APART, NARROWED_APART, WRONG_APART)):
         expected = sound
         for old, new in narrowed:
             assert expected.count(old) == 1, old

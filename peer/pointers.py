@@ -3,7 +3,7 @@
 A pointer that is stored is stored as a number of 64 bits, and made a pointer again where it is loaded. So memory is the same on both, byte for byte,
 as it is on the wider machine where all of it lies below 4 GB; and what the program does there is proved for it wherever it lies.
 Only the forms below are let pass: of a pointer a number is made where it is stored, and where the standard library's copy asks whether two parts
-lie apart; and none compares two pointers.
+lie apart, which takes their distance, one address less another, and nothing else of an address; and none compares two pointers.
 Whether a caller's pointer is null may be asked: it is on both or on neither. Two values may be a function's result: as a pair,
 whose second part lies at the same place on both once a pointer in it is a number too.
 """
@@ -36,6 +36,7 @@ LOAD_PAIR = re.compile(rf"(%[\w.]+) = load ({PAIR}), ptr (%[\w.]+), (align \d+)"
 PART = re.compile(rf"(%[\w.]+) = extractvalue ({PAIR}) (%[\w.]+), ([01])")
 GIVE_PAIR = re.compile(rf"ret ({PAIR}) (%[\w.]+)")
 ADDRESS = re.compile(r"(%[\w.]+) = ptrtoaddr ptr (%[\w.]+) to i64")
+DISTANCE = re.compile(r"%[\w.]+ = sub i64 (%[\w.]+), (%[\w.]+)")
 IS_NULL = re.compile(r"%[\w.]+ = icmp eq ptr (%a\d+), null")
 CALL = re.compile(rf"(?:(%[\w.]+) = )?call (?:zeroext )?(void|ptr|{NUMBER}|{PAIR}) ({NAME})\((.*)\)")
 OUTSIDE = {"@llvm.memmove.p0.p0.i64", "@llvm.memset.p0.i64", "@llvm.trap", "@llvm.ctpop.i32", "@llvm.ctlz.i32", "@llvm.bswap.i32", "@llvm.bswap.i16"}
@@ -68,10 +69,11 @@ def arguments_in(line, text):
 
 
 class Function:
-    """One function's lines; it knows the pairs by their forms, and the pointers that come from outside."""
+    """One function's lines; it knows the pairs by their forms, the pointers that come from outside, and the addresses that were taken."""
 
     def __init__(self, constants, calls):
         self.constants, self.calls, self.pairs, self.callers, self.stored = constants, calls, {}, set(), 0
+        self.addresses, self.used = set(), set()
 
     def enter(self, line, parameters, is_internal):
         for index, (form, value) in enumerate(parameters):
@@ -111,7 +113,17 @@ class Function:
             fault(line, "a pair that is not known yet")
 
     def address(self, line, result, value):
+        if result in self.used:
+            fault(line, "an address that was used before it was taken")
+        self.addresses.add(result)
         return [f"{result} = ptrtoint ptr {value} to i64"]
+
+    def spares_addresses(self, line):
+        """Of two addresses the distance may be taken, and nothing else is done with one."""
+        names, distance = set(re.findall(r"%[\w.]+", line)), DISTANCE.fullmatch(line)
+        if self.addresses & names and not (distance and set(distance.groups()) <= self.addresses):
+            fault(line, "an address that is used for more than a distance")
+        self.used |= names
 
     def is_null(self, line, value):
         if value not in self.callers:
@@ -128,6 +140,8 @@ class Function:
 
     def read(self, line):
         text = line.strip()
+        taken = ADDRESS.fullmatch(text)
+        self.spares_addresses(text.removeprefix(f"{taken[1]} = ") if taken else text)
         takers = ((FRAME, self.frame), (LOAD, self.load), (STORE, self.store), (LOAD_PAIR, self.load_pair), (PART, self.part),
                   (GIVE_PAIR, self.give_pair), (ADDRESS, self.address), (IS_NULL, self.is_null), (CALL, self.call))
         for form, take in takers:

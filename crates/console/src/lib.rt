@@ -124,5 +124,11 @@ pub fn number_at(bytes: &[u8], low: usize, high: usize) -> u64
 pub fn count_changed(bytes: &[u8], from: usize) -> usize
     ensures { result ≡ changed_from bytes.now from }
 {
-    bytes.iter().skip(from).filter(|b| **b != b'.').count()
+    let mut changed = 0;
+    for b in bytes.get(from..).unwrap_or(&[]) {
+        if *b != b'.' {
+            changed += 1;
+        }
+    }
+    changed
 }

@@ -38,7 +38,7 @@ use Rattle.words.specs.declared.Order.{Order}
 use Rattle.words.specs.declared.Order.TheVariants.{Big, Little}
 use Rattle.writing.specs.Writing.{Change, filing, formatting, left, recording, registering, removing, said}
 use Rattle.contracts.proofs.Public.{equation, leaves}
-use Rattle.contracts.specs.Interface.{Interface, InterfaceGives, InterfaceRefuses, NamesWithin, Structs, TellsAndKeeps, Untitled, ZeroAccepts, event_struct, lying_by}
+use Rattle.contracts.specs.Interface.{Conversions, Interface, InterfaceGives, InterfaceRefuses, NamesWithin, Structs, TellsAndKeeps, Untitled, ZeroAccepts, event_struct, lying_by}
 
 pub interface : Interface
 interface = record {
@@ -61,6 +61,15 @@ interface = record {
   lepsaino_remove = leaves (λ κs a x e p. p) (λ κs a v w e i. (e i, v.1));
   lepsaino_write_name = leaves (λ κs a x e p. p) (λ κs a v w e i. (e i, v.1));
   lepsaino_mend = leaves (λ κs a x e p. p) (λ κs a v w e i. (tt, (e i, tt)));
+}
+
+pub conversions : Conversions
+conversions = record {
+  answer = equation (λ κs a v w. refl);
+  name = equation (λ κs a v w. refl);
+  check = equation (λ κs a v w. refl);
+  event = equation (λ κs a v w. refl);
+  mend = equation (λ κs a v w. refl);
 }
 
 pub interface_gives : InterfaceGives

@@ -5,7 +5,7 @@ use mathlib.Core.Path.{◌≡◌, refl, sym, ◌∙◌}
 use denote.Ref.{Bor}
 use denote.Triple.Clauses.{AtExit, Ended, Lasts, at_exit}
 use Rattle.trace.specs.Parts.{PartOf}
-use Rattle.contracts.specs.Public.{Library, NameOpen}
+use Rattle.contracts.specs.Public.{Library, NameOpen, PrintedOnce}
 use Rattle.contracts.specs.Settled.{Arguments, Lives, Result, Settled, Telling}
 
 module _ {T : Ended} {value : (κs : Lives T) → Arguments T κs → Result T κs} where
@@ -99,11 +99,13 @@ library = record {
     number_length = bounded (λ κs a v w. refl);
     put_number = leaves (λ κs a x e p. (p.count, p.bytes)) (λ κs a v w e i. (e i, v.1));
     fit_number = leaves (λ κs a x e p. (p.count, p.bytes)) (λ κs a v w e i. (e i, v.1));
+    fit = leaves (λ κs a x e p. (p.count, p.bytes)) (λ κs a v w e i. (tt, (e i, tt)));
   };
   names = record {
     name_length = equation (λ κs a v w. refl);
     put_name = leaves (λ κs a x e p. (p.count, p.bytes)) (λ κs a v w e i. (e i, v.1));
     fit_name = leaves (λ κs a x e p. (p.count, p.bytes)) (λ κs a v w e i. (e i, v.1));
+    fit = leaves (λ κs a x e p. (p.count, p.bytes)) (λ κs a v w e i. (tt, (e i, tt)));
   };
   lines = record {
     line_length = equation (λ κs a v w. refl);
@@ -169,6 +171,12 @@ library = record {
     number_at = equation (λ κs a v w. refl);
     count_changed = equation (λ κs a v w. refl);
   };
+}
+
+pub printed_once : PrintedOnce
+printed_once = record {
+  fit = λ text old new other n m p q. (p.count ∙ sym q.count, p.bytes ∙ sym q.bytes);
+  put = λ text old new other n m p q. (p.count ∙ sym q.count, p.bytes ∙ sym q.bytes);
 }
 
 pub name_open : NameOpen

@@ -7,7 +7,9 @@ use Rattle.events.specs.Listing.{Gave, line_at, line_rows, listing_rows, listing
 use Rattle.events.specs.declared.Event.{Event}
 use Rattle.events.specs.declared.Reading.{Reading}
 use Rattle.lepsaino_c.proofs as calls
+use Rattle.lepsaino_c.proofs.answers as answers
 use Rattle.lepsaino_c.specs.contracts as calls-contracts
+use Rattle.lepsaino_c.specs.contracts.answers as answers-contracts
 use Rattle.lepsaino_c.specs.Answers.{GaveNumbers, answer_of, check_answer, check_answer_of, event_answer, event_answer_of, format_given, number_answer, mend_answer, mend_answer_of, name_answer, name_answer_of, order_given, subject_given}
 use Rattle.lepsaino_c.specs.declared.answers.Answer.{Answer}
 use Rattle.lepsaino_c.specs.declared.answers.EventAnswer.{EventAnswer}
@@ -59,6 +61,14 @@ pub record Interface : Type 0 where
   pub lepsaino_remove : Settled calls-contracts.lepsaino_remove.ended calls.lepsaino_remove.Reads.Asked calls.lepsaino_remove.Reads.Learnt
   pub lepsaino_write_name : Settled calls-contracts.lepsaino_write_name.ended calls.lepsaino_write_name.Reads.Asked calls.lepsaino_write_name.Reads.Learnt
   pub lepsaino_mend : Settled calls-contracts.lepsaino_mend.ended calls.lepsaino_mend.Reads.Asked calls.lepsaino_mend.Reads.Learnt
+
+-- the conversions of the library's answers to the structs for C
+pub record Conversions : Type 0 where
+  pub answer : Settled answers-contracts.AnswerFromResultUsizeRefusal.from.ended answers.AnswerFromResultUsizeRefusal.from.Reads.Asked answers.AnswerFromResultUsizeRefusal.from.Reads.Learnt
+  pub name : Settled answers-contracts.NameAnswerFromResultOptionNameRefusal.from.ended answers.NameAnswerFromResultOptionNameRefusal.from.Reads.Asked answers.NameAnswerFromResultOptionNameRefusal.from.Reads.Learnt
+  pub check : Settled answers-contracts.CheckAnswerFromResultSoundRefusal.from.ended answers.CheckAnswerFromResultSoundRefusal.from.Reads.Asked answers.CheckAnswerFromResultSoundRefusal.from.Reads.Learnt
+  pub event : Settled answers-contracts.EventAnswerFromResultEventRefusal.from.ended answers.EventAnswerFromResultEventRefusal.from.Reads.Asked answers.EventAnswerFromResultEventRefusal.from.Reads.Learnt
+  pub mend : Settled answers-contracts.MendAnswerFromResultMendedRefusal.from.ended answers.MendAnswerFromResultMendedRefusal.from.Reads.Asked answers.MendAnswerFromResultMendedRefusal.from.Reads.Learnt
 
 -- the struct of an answer that a call of the library may give
 abbrev pub InNumbers : {A B : Type 0} → (A → B) → (A → Type 0) → B → Type 0

@@ -40,6 +40,7 @@ use Rattle.registrar.proofs as registrar
 use Rattle.registrar.specs.contracts as registrar-contracts
 use Rattle.rows.proofs as rows
 use Rattle.rows.specs.contracts as rows-contracts
+use Rattle.text.specs.Output.{Fitted, Put, printed}
 use Rattle.trace.specs.Parts.{PartOf}
 use Rattle.walk.proofs as walk
 use Rattle.walk.specs.contracts as walk-contracts
@@ -105,11 +106,13 @@ pub record Numbers : Type 0 where
   pub number_length : Settled numbers-contracts.number_length.ended numbers.number_length.Reads.Asked numbers.number_length.Reads.Learnt
   pub put_number : Settled numbers-contracts.put_number.ended numbers.put_number.Reads.Asked numbers.put_number.Reads.Learnt
   pub fit_number : Settled numbers-contracts.fit_number.ended numbers.fit_number.Reads.Asked numbers.fit_number.Reads.Learnt
+  pub fit : Settled numbers-contracts.NumberPrinted.fit.ended numbers.NumberPrinted.fit.Reads.Asked numbers.NumberPrinted.fit.Reads.Learnt
 
 pub record Names : Type 0 where
   pub name_length : Settled names-contracts.name_length.ended names.name_length.Reads.Asked names.name_length.Reads.Learnt
   pub put_name : Settled names-contracts.put_name.ended names.put_name.Reads.Asked names.put_name.Reads.Learnt
   pub fit_name : Settled names-contracts.fit_name.ended names.fit_name.Reads.Asked names.fit_name.Reads.Learnt
+  pub fit : Settled names-contracts.NamePrinted.fit.ended names.NamePrinted.fit.Reads.Asked names.NamePrinted.fit.Reads.Learnt
 
 pub record Lines : Type 0 where
   pub line_length : Settled lines-contracts.line_length.ended lines.line_length.Reads.Asked lines.line_length.Reads.Learnt
@@ -199,6 +202,11 @@ pub record Library : Type 0 where
   pub pieces : Pieces
   pub arguments : Arguments
   pub console : Console
+
+-- what is promised of all that is printed: whatever the type, two answers that the clauses of `fit` and of `put` allow are equal
+pub record PrintedOnce : Type 0 where
+  pub fit : (text old new other : List ℕ) (n m : ℕ) → Fitted text old new n → Fitted text old other m → (n ≡ m) × (new ≡ other)
+  pub put : (text old new other : List ℕ) (n m : ℕ) → Put (printed text old) old new n → Put (printed text old) old other m → (n ≡ m) × (new ≡ other)
 
 -- no exception is left: a `&` has no ghost name, so a part that is handed back is its block, its offset and its bytes
 abbrev pub NameOpen : Type 0

@@ -5,6 +5,7 @@ ghost use Rattle.trace.specs.Layout.{entry_count};
 ghost use Rattle.trace.specs.Registry.{is_in_use, is_allowed_type, is_thread_at, kind_at, pointer_at, type_at, is_wanted_at, is_wanted};
 
 use header::geometry_of;
+use rows::both;
 use trace::{HEADER_SIZE, Header, ThreadKind, Wanted};
 use words::Order;
 
@@ -34,7 +35,7 @@ fn has_pointer(dump: &[u8], at: usize, order: Order, pointer: u32) -> bool
 pub fn is_bad_type(dump: &[u8], at: usize) -> bool
     ensures { result ≡ (is_in_use dump.now at && not (is_allowed_type (type_at dump.now at))) }
 {
-    in_use(dump, at) & !allowed_type(words::byte(dump, at, 1))
+    both(in_use(dump, at), !allowed_type(words::byte(dump, at, 1)))
 }
 
 // Whether the entry at a place is a thread's, live or gone.

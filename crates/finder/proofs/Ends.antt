@@ -16,18 +16,18 @@ use Rattle.rows.proofs.Lowest.{lowest_at, lowest_none}
 use Rattle.trace.specs.Names.{is_zero_at, length_to_zero}
 
 module _ (s name : List ℕ) (at size : ℕ) (part : name ≡ take size (drop at s)) where
-  long : length name ≤ size
+  pub long : length name ≤ size
   long = rw (part, length-take) (omega arith)
 
   byte_is : (i : ℕ) → i < length name → get_or name i 0 ≡ get_or s (at + i) 0
   byte_is i within = ap (λ (l : List ℕ). get_or l i 0) part ∙ get_or-take size (drop at s) i 0 (omega (arith, long)) ∙ get_or-drop at s i 0
 
   module _ (i : ℕ) (missed : (k : ℕ) → k < i → is_zero_at s at k ≡ false) where
-    ends_at_zero : i < length name → get_or name i 0 ≡ 0 → i ≡ length_to_zero s at size
+    pub ends_at_zero : i < length name → get_or name i 0 ≡ 0 → i ≡ length_to_zero s at size
     ends_at_zero within zero = lowest_at (is_zero_at s at) size i (omega (arith, long)) missed (eq-eqb (get_or s (at + i) 0) 0 (sym (byte_is i within) ∙ zero))
 
     -- past the bytes' end every byte reads as zero
-    ends_with_part : i ≡ length name → i ≡ length_to_zero s at size
+    pub ends_with_part : i ≡ length name → i ≡ length_to_zero s at size
     ends_with_part all = by (dec_lt i size)
       where
         by : Dec (i < size) → i ≡ length_to_zero s at size

@@ -1,7 +1,7 @@
 // Lists a dump, with names from a name file where one is given.
 ghost use Rattle.std.specs.Prelude.{◌<◌, ◌^◌};
 
-use crate::shared::{Failure, Fault, argument, argument_count, is_dash, path_at, read_file};
+use crate::shared::{Fault, argument, argument_count, is_dash, path_at, read_file};
 use arguments::number_in;
 use console::print_bytes;
 use events::Reading;
@@ -56,24 +56,40 @@ fn print_listing<const N: usize>(
     }
 }
 
-// Nothing is listed where one of the files cannot be read.
-fn list_files<'p>(
-    rt: &HostRuntime,
-    path: &'p [u8],
-    names_path: Option<&'p [u8]>,
-    reading: Reading,
-) -> Result<(), Failure<'p>> {
-    let mut space = [0u8; 65537];
-    let dump = read_file(rt, path, &mut space)?;
-    match names_path {
-        None => print_listing::<ROOM>(rt, dump, None, reading),
-        Some(path) => {
-            let mut space = [0u8; 65537];
-            let names = read_file(rt, path, &mut space)?;
-            print_listing::<ROOM>(rt, dump, Some(names), reading);
+// The bytes of the file at the path in an argument. None, and a line on standard error, where they cannot be read. The space for the path is let go again.
+#[inline(never)]
+fn read_at<'a>(rt: &HostRuntime, i: usize, space: &'a mut [u8]) -> Option<&'a [u8]> {
+    let mut path_space = [0u8; 4096];
+    let path = argument(rt, i, &mut path_space)?;
+    match read_file(rt, path, space) {
+        Ok(bytes) => Some(bytes),
+        Err(failure) => {
+            failure.tell(rt);
+            None
         }
     }
-    Ok(())
+}
+
+// The space for a name file is made here, so that a listing without one does not take it.
+#[inline(never)]
+fn list_named(rt: &HostRuntime, dump: &[u8], reading: Reading) {
+    let mut space = [0u8; 65537];
+    if let Some(names) = read_at(rt, 5, &mut space) {
+        print_listing::<ROOM>(rt, dump, Some(names), reading);
+    }
+}
+
+// Nothing is listed where one of the files cannot be read.
+fn list_files(rt: &HostRuntime, is_named: bool, reading: Reading) {
+    let mut space = [0u8; 65537];
+    let Some(dump) = read_at(rt, 1, &mut space) else {
+        return;
+    };
+    if is_named {
+        list_named(rt, dump, reading);
+    } else {
+        print_listing::<ROOM>(rt, dump, None, reading);
+    }
 }
 
 // The number in an argument.
@@ -86,6 +102,8 @@ fn word_at(rt: &HostRuntime, i: usize) -> Option<u32> {
     u32::try_from(number_at(rt, i)?).ok()
 }
 
+// The space for an argument is let go before the spaces for the files are made.
+#[inline(never)]
 fn reading_of(rt: &HostRuntime) -> Result<Reading, Fault> {
     Ok(Reading {
         rate: word_at(rt, 2).ok_or(Fault::Number {
@@ -118,7 +136,19 @@ fn names_path_at<'a>(
     path_at(rt, 5, "NAMES", space).map(Some)
 }
 
-// Standard input is one file: it cannot be both.
+// What is wrong with the paths. Standard input is one file: it cannot be both.
+#[inline(never)]
+fn check_paths(rt: &HostRuntime, count: usize) -> Result<(), Fault> {
+    let mut space = [0u8; 4096];
+    let path = path_at(rt, 1, "FILE", &mut space)?;
+    let mut names_space = [0u8; 4096];
+    let names_path = names_path_at(rt, count, &mut names_space)?;
+    if is_dash(path) && names_path.is_some_and(|names| is_dash(names)) {
+        return Err(Fault::TwoDashes);
+    }
+    Ok(())
+}
+
 pub(crate) fn list_by_arguments(rt: &HostRuntime) -> Result<(), Fault> {
     let count = argument_count(rt);
     if count != 5 && count != 6 {
@@ -127,15 +157,7 @@ pub(crate) fn list_by_arguments(rt: &HostRuntime) -> Result<(), Fault> {
         ));
     }
     let reading = reading_of(rt)?;
-    let mut space = [0u8; 4096];
-    let path = path_at(rt, 1, "FILE", &mut space)?;
-    let mut names_space = [0u8; 4096];
-    let names_path = names_path_at(rt, count, &mut names_space)?;
-    if is_dash(path) && names_path.is_some_and(|names| is_dash(names)) {
-        return Err(Fault::TwoDashes);
-    }
-    if let Err(failure) = list_files(rt, path, names_path, reading) {
-        failure.tell(rt);
-    }
+    check_paths(rt, count)?;
+    list_files(rt, count == 6, reading);
     Ok(())
 }

@@ -44,19 +44,27 @@ fn remove(rt: &HostRuntime, path: &[u8]) -> io::Result<()> {
     fs::remove_file(rt, path_of(path)?)
 }
 
-// Makes a new file of these bytes. Where not all can be written none are kept.
-fn keep(rt: &HostRuntime, path: &[u8], bytes: &[u8]) -> Result<(), Failure<'static>> {
-    let mut file = create(rt, path).map_err(|error| Failure {
+// Fills a new file with these bytes. Where not all can be written it says so, and then none are kept.
+fn fill(rt: &HostRuntime, path: &[u8], mut file: File, bytes: &[u8]) -> bool {
+    if let Err(error) = write_whole(&mut file, bytes) {
+        let failure = Failure {
+            what: b"COPY cannot be written",
+            error,
+        };
+        failure.tell(rt);
+        let _ = remove(rt, path);
+        return false;
+    }
+    true
+}
+
+// Makes a new file of these bytes, and answers whether it keeps them.
+fn keep(rt: &HostRuntime, path: &[u8], bytes: &[u8]) -> Result<bool, Failure<'static>> {
+    let file = create(rt, path).map_err(|error| Failure {
         what: b"COPY cannot be made",
         error,
     })?;
-    write_whole(&mut file, bytes).map_err(|error| {
-        let _ = remove(rt, path);
-        Failure {
-            what: b"COPY cannot be written",
-            error,
-        }
-    })
+    Ok(fill(rt, path, file, bytes))
 }
 
 // No copy is longer than the space. Nothing is printed where the copy is not kept.
@@ -68,8 +76,9 @@ fn mend_dump(rt: &HostRuntime, dump: &[u8], path: &[u8]) -> Result<(), Failure<'
         }
         Ok(mended) => {
             if let Some(copy) = space.get(..mended.length) {
-                keep(rt, path, copy)?;
-                let _ = println!(rt; "{}", Report(mended));
+                if keep(rt, path, copy)? {
+                    let _ = println!(rt; "{}", Report(mended));
+                }
             }
         }
     }
@@ -81,6 +90,8 @@ fn mend_file<'p>(rt: &HostRuntime, from: &'p [u8], to: &[u8]) -> Result<(), Fail
     mend_dump(rt, read_file(rt, from, &mut space)?, to)
 }
 
+// The spaces for mending are made here, so that a listing does not take them.
+#[inline(never)]
 pub(crate) fn mend_by_arguments(rt: &HostRuntime) -> Result<(), Fault> {
     if argument_count(rt) != 4 {
         return Err(Fault::Usage("lepsaino mend FILE COPY"));

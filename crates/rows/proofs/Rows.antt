@@ -2,36 +2,43 @@
 use Rattle.std.specs.Prelude.{ℕ, Err, Ok}
 use mathlib.Core.Bool.{Bool, true, false, cond}
 use mathlib.Core.List.{List, [], ◌∷◌, ◌++◌}
-use mathlib.Core.Path.{◌≡◌, refl, sym, ap, ap₂, ◌∙◌}
-use Rattle.rows.specs.Rows.{Row, row_at, refusal, first_broken, Verdict}
+use mathlib.Core.Path.{◌≡◌, refl, sym, ap₂, ◌∙◌}
+use Rattle.rows.specs.Rows.{Row, row_at, refusal, first_broken, after_row, after_rows, Verdict}
 use Rattle.rows.specs.declared.Refusal.{Refusal}
 
--- what further rows give behind others: an earlier refusal stays
-abbrev behind : Verdict → Verdict → Verdict
-behind (Err f) more = Err f
-behind (Ok tt) more = more
+-- an earlier refusal stays
+pub refused_stays : (f : Refusal) (rs : List Row) → after_rows (Err f) rs ≡ Err f
+unfolding after_row
+refused_stays f [] = refl
+refused_stays f (r ∷ rs) = refused_stays f rs
 
-chosen : (b : Bool) (f : Refusal) (v more : Verdict) → behind (cond b (Err f) v) more ≡ cond b (Err f) (behind v more)
-chosen true f v more = refl
-chosen false f v more = refl
+chosen : (b : Bool) (f : Refusal) (more : List Row) (v w : Verdict) → after_rows v more ≡ w → after_rows (cond b (Err f) v) more ≡ cond b (Err f) w
+chosen true f more v w e = refused_stays f more
+chosen false f more v w e = e
 
 -- rows in order, and then further rows, are all of them in order
-in_order : (rs more : List Row) → behind (first_broken rs) (first_broken more) ≡ first_broken (rs ++ more)
+pub in_order : (rs more : List Row) → after_rows (first_broken rs) more ≡ first_broken (rs ++ more)
+unfolding first_broken after_row
+in_order [] [] = refl
+in_order [] (r ∷ more) = chosen r.broken (refusal r) more _ _ (in_order [] more)
+in_order (r ∷ rs) more = chosen r.broken (refusal r) more _ _ (in_order rs more)
+
+-- rows in order, from the start
+pub from_start : (rs : List Row) → after_rows (Ok tt) rs ≡ first_broken rs
 unfolding first_broken
-in_order [] more = refl
-in_order (r ∷ rs) more = chosen r.broken (refusal r) (first_broken rs) (first_broken more) ∙ ap (cond r.broken (Err (refusal r))) (in_order rs more)
+from_start rs = in_order [] rs
 
 -- rows that say the same say the same with further rows behind them
 pub then_same : (rs others : List Row) {more further : List Row} → first_broken rs ≡ first_broken others → more ≡ further → first_broken (rs ++ more) ≡ first_broken (others ++ further)
-then_same rs others {more} {further} say same = sym (in_order rs more) ∙ ap₂ behind say (ap first_broken same) ∙ in_order others further
+then_same rs others {more} {further} say same = sym (in_order rs more) ∙ ap₂ after_rows say same ∙ in_order others further
 
 -- further rows change no refusal, and decide where the rows before them have passed
 module _ (rs more : List Row) where
   pub then_refused : (f : Refusal) → first_broken rs ≡ Err f → Err f ≡ first_broken (rs ++ more)
-  then_refused f e = rw e at (in_order rs more)
+  then_refused f e = sym (refused_stays f more) ∙ rw e at (in_order rs more)
 
   pub then_rest : first_broken rs ≡ Ok tt → first_broken more ≡ first_broken (rs ++ more)
-  then_rest e = rw e at (in_order rs more)
+  then_rest e = sym (from_start more) ∙ rw e at (in_order rs more)
 
   pub then_kept : first_broken more ≡ Ok tt → first_broken (rs ++ more) ≡ first_broken rs
   then_kept kept = by (first_broken rs) refl

@@ -40,3 +40,12 @@ answer_by (Ok tt) x = Ok x
 -- no row is broken
 abbrev pub Accepted : List Row → Type 0
 Accepted rows = first_broken rows ≡ Ok tt
+
+-- the same as code goes that hands a verdict on: one row after another, where an earlier refusal stays
+unfoldable pub after_row : Verdict → Row → Verdict
+after_row (Err f) r = Err f
+after_row (Ok tt) r = cond r.broken (Err (refusal r)) (Ok tt)
+
+abbrev pub after_rows : Verdict → List Row → Verdict
+after_rows v [] = v
+after_rows v (r ∷ rs) = after_rows (after_row v r) rs
