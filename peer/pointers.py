@@ -120,10 +120,10 @@ class Function:
 
     def spares_addresses(self, line):
         """Of two addresses the distance may be taken, and nothing else is done with one."""
-        names, distance = set(re.findall(r"%[\w.]+", line)), DISTANCE.fullmatch(line)
-        if self.addresses & names and not (distance and set(distance.groups()) <= self.addresses):
+        given, distance = set(re.findall(r"%[\w.]+", re.sub(r"^%[\w.]+ = ", "", line))), DISTANCE.fullmatch(line)
+        if self.addresses & given and not (distance and set(distance.groups()) <= self.addresses):
             fault(line, "an address that is used for more than a distance")
-        self.used |= names
+        self.used |= given
 
     def is_null(self, line, value):
         if value not in self.callers:
@@ -140,8 +140,7 @@ class Function:
 
     def read(self, line):
         text = line.strip()
-        taken = ADDRESS.fullmatch(text)
-        self.spares_addresses(text.removeprefix(f"{taken[1]} = ") if taken else text)
+        self.spares_addresses(text)
         takers = ((FRAME, self.frame), (LOAD, self.load), (STORE, self.store), (LOAD_PAIR, self.load_pair), (PART, self.part),
                   (GIVE_PAIR, self.give_pair), (ADDRESS, self.address), (IS_NULL, self.is_null), (CALL, self.call))
         for form, take in takers:
