@@ -156,6 +156,7 @@ WRONG_APART = [
     ("an address as a step", "ret i64 %r2", "%r3 = getelementptr i8, ptr %a0, i64 %r1\n  ret i64 %r2"),
     ("an address handed on", "ret i64 %r2", "%r3 = call i64 @\"apart\"(ptr %a0, i64 %r1)\n  ret i64 %r2"),
     ("an address used before it is taken", "  %r1 = ptrtoaddr ptr %a1 to i64\n  %r2 = sub i64 %r0, %r1\n", "  %r2 = add i64 %r1, 8\n  %r1 = ptrtoaddr ptr %a1 to i64\n"),
+    ("an address by another spelling", "  %r2 = sub", "  %1 = ptrtoaddr ptr %a0 to i64\n  %2 = add i64 %01, 8\n  %r2 = sub"),
     ("an address of 32 bits", "ptrtoaddr ptr %a0 to i64", "ptrtoaddr ptr %a0 to i32"),
 ]
 

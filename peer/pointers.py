@@ -120,6 +120,8 @@ class Function:
 
     def spares_addresses(self, line):
         """Of two addresses the distance may be taken, and nothing else is done with one."""
+        if re.search(r"%0\d", line):
+            fault(line, "a name that can be spelled in another way")
         given, distance = set(re.findall(r"%[\w.]+", re.sub(r"^%[\w.]+ = ", "", line))), DISTANCE.fullmatch(line)
         if self.addresses & given and not (distance and set(distance.groups()) <= self.addresses):
             fault(line, "an address that is used for more than a distance")
